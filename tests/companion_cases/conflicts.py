@@ -1,9 +1,22 @@
-"""ansible-vault-edit shows both sides of a file with git's conflict markers, and saves one envelope."""
+"""ansible-vault-edit shows both sides of a file with git's conflict markers, and saves one envelope. So does
+ansible-vault-textconv, and `git diff` shows what they differ in."""
 
 import pytest
 
-from companion_cases import PASSWORDS, TEXT, Place, block, decrypted, edit, ended, sealed, texts
-from companion_cases.repository import SALTS, fork, under_git
+from companion_cases import (
+    PASSWORDS,
+    TEXT,
+    TEXTCONV,
+    Place,
+    block,
+    decrypted,
+    edit,
+    ended,
+    line_of_values,
+    sealed,
+    texts,
+)
+from companion_cases.repository import SALTS, fork, set_driver, under_git
 from lib.needs import needs_pyyaml
 from model.vaults import seal, yaml_block
 
@@ -152,3 +165,44 @@ def test_values(place: Place, command: str) -> None:
     place.put("a.yml", before)
     ended("both", edit(place, f'{TAKE_THEIRS}; sed -i s/theirs/both/ "$1"', *words), 0)
     assert texts(place.get("a.yml"), "old") == [b"both"]
+
+
+@pytest.mark.parametrize("style", ("merge", "diff3"))
+@pytest.mark.parametrize("driver", ("with the driver", "git alone"))
+def test_shown_conflict(place: Place, driver: str, style: str) -> None:
+    """`git diff` shows the conflict of one value of many, and no other value: the file has the layout of its sides."""
+    needs_pyyaml()
+    under_git(place, f"*.yml diff=ansible-vault{' merge=ansible-vault' if driver != 'git alone' else ''}\n")
+    set_driver(place, *place.by_file("old"))
+    settings = {"diff.ansible-vault.textconv": f"{TEXTCONV} --vault-password-file={place.secret('old')}"}
+    for name, value in {**settings, "merge.conflictStyle": style}.items():
+        place.run("git", "config", name, value)
+
+    def write(text: bytes) -> dict[str, bytes]:
+        return {
+            "a.yml": block("old", b"1", name="a") + block("old", text, name="b") + b"c: 3\n" + block("old", name="d")
+        }
+
+    fork(place, *map(write, (b"base", b"ours", b"theirs")))
+    ended("git", place.run("git", "merge", "theirs"), 1, "Merge conflict in a.yml")
+    lines = place.run("git", "diff", "-U1").stdout.splitlines()
+    changed = ["++<<<<<<< ours", " +  ours", "++=======", "+   theirs", "++>>>>>>> theirs"]
+    assert lines[5:] == ["  b: !vault |-", *changed, "  c: 3"], lines
+    shown = place.run(TEXTCONV, *place.by_file("old"), "a.yml").stdout.splitlines()
+    assert shown[0] == "# ansible-vault: encrypted values: 3", "the values of a side"
+
+
+def test_shown_conflict_of_others(place: Place) -> None:
+    """A value that no password decrypts is shown as it is, and a side may be empty."""
+    needs_pyyaml()
+    closed = block("dev", name="closed")
+    place.put("a.yml", both(block("old", b"x") + closed, closed))
+    done = place.run(TEXTCONV, *place.by_file("old"), "a.yml")
+    assert (
+        done.stdout
+        == line_of_values(2) + f"<<<<<<< ours\nsecret: !vault |-\n  x\n=======\n>>>>>>> theirs\n{closed.decode()}"
+    )
+    assert done.stderr.count("shown as it is: no secret decrypts this vault") == 2, done.stderr
+    place.put("a.yml", both(block("old", b"x"), b""))
+    done = place.run(TEXTCONV, *place.by_file("old"), "a.yml")
+    assert done.stdout == line_of_values(1) + both(b"secret: !vault |-\n  x\n", b"").decode()

@@ -5,7 +5,7 @@ from __future__ import annotations
 import os
 from typing import NamedTuple
 
-from ansible_vault_companions.envelopes.conflicts import END_MARKER
+from ansible_vault_companions.envelopes.conflicts import END_MARKER, join_sides
 from ansible_vault_companions.git import commands
 from ansible_vault_companions.refusals import Refused
 
@@ -34,7 +34,16 @@ class MergedLines(NamedTuple):
     conflicts: int
 
 
-def merge_lines(versions: Versions) -> MergedLines:
+def join_lines(ours: bytes, theirs: bytes) -> bytes:
+    """A conflict of two texts, with markers around the lines in which they differ."""
+    if not (ours and theirs):
+        # Without a base, git would take the other one.
+        return join_sides(ours, theirs)
+    # With a base in each conflict, git would not look for lines that are the same.
+    return merge_lines(Versions(ours, b"", theirs), "-c", "merge.conflictStyle=merge").text
+
+
+def merge_lines(versions: Versions, *options: str) -> MergedLines:
     """The result of git's merge. The texts are passed in memory, never on disk."""
     files = [os.memfd_create("version") for _ in versions]
     for file, text in zip(files, versions):
@@ -43,7 +52,7 @@ def merge_lines(versions: Versions) -> MergedLines:
     names = [word for side in SIDES for word in ("-L", side)]
     words = ["merge-file", "-p", *names, *(f"/proc/self/fd/{file}" for file in files)]
     try:
-        done = commands.run_git_command(*words, pass_fds=files)
+        done = commands.run_git_command(*options, *words, pass_fds=files)
     finally:
         for file in files:
             os.close(file)

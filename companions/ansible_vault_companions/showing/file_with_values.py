@@ -25,15 +25,19 @@ def read_envelopes(target: str) -> ParsedText:
 
 
 def show_envelopes(companion: str, parsed: ParsedText, path: str, target: str, decrypt: Decrypt) -> list[bytes]:
-    """The file's data with plaintext in place of its envelopes, as far as they can be decrypted and shown; for a
-    conflict of two vaults, the merged text. It is in pieces, since it may be long."""
+    """The first line, and the file's data with plaintext in place of its envelopes, as far as they can be decrypted and
+    shown. It is in pieces, since it may be long."""
     if conflicts.is_unmerged(parsed.data):
         # Most files have no conflict.
-        from ansible_vault_companions.showing import vault_conflict
+        from ansible_vault_companions.showing import conflict
 
-        merged = vault_conflict.merge_vaults(target, parsed.data, decrypt)
-        if merged is not None:
-            return [merged]
+        def show_side(data: bytes) -> list[bytes]:
+            side = parse_envelopes(data)
+            return [_choose_first_line(side), _show_values(companion, side, path, decrypt)]
+
+        shown = conflict.show_conflict(target, parsed.data, decrypt, show_side)
+        if shown is not None:
+            return shown
     return [_choose_first_line(parsed), _show_values(companion, parsed, path, decrypt)]
 
 
