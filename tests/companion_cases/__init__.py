@@ -28,8 +28,6 @@ EDIT, ROTATE, CHECK, TEXTCONV, HOOK, WITH, MERGE = (
 )
 # The status of a merge that leaves a conflict.
 CONFLICT = 128
-# How a message on a conflict ends.
-RESOLVE = "resolve with ansible-vault-edit, or take one side with `git checkout --ours` or `--theirs`"
 # A finished run of a companion.
 Done = subprocess.CompletedProcess[str]
 NOBODY = 65_534
@@ -264,6 +262,13 @@ def wait_until(condition: Callable[[], object], what: str) -> None:
         if time.monotonic() > end:
             raise AssertionError(f"{what} takes too long")
         time.sleep(0.02)
+
+
+def how_to_resolve(pathspec: str) -> str:
+    """Return how a message on a conflict ends."""
+    return (
+        f"resolve with ansible-vault-edit, or take one side with `git checkout --ours -- {pathspec}` or with `--theirs`"
+    )
 
 
 def versions(place: Place, name: str, base: bytes, ours: bytes, other: bytes) -> list[str]:

@@ -1,7 +1,7 @@
 """Messages are acted on: what one says to run, to write or to leave out is taken out of it, and then the fault is gone.
 
 Each is for a file with an awkward name, and acted on at the top of the repository or below. The messages of each
-companion are in `acted_on_hook.py`, `acted_on_check.py` and `acted_on_edit.py`.
+companion are in `acted_on_hook.py`, `acted_on_check.py`, `acted_on_edit.py` and `acted_on_merge.py`.
 """
 
 import re

@@ -50,7 +50,7 @@ ROWS = {
     "one side": Row(
         fault=merged(base=sealed("old", BASE), ours=sealed("old", OURS), theirs=THEIRS),
         command=EDIT_BY_OLD,
-        advice="take one with `(.*?)` or",
+        advice="take one side with `(.*?)` or",
         act=type_advice,
         plaintexts=[OURS],
     ),

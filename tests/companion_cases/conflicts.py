@@ -110,7 +110,7 @@ def test_one_vault(place: Place, sides: tuple[bytes, bytes]) -> None:
     """If only one of the sides is a vault, git is to take one."""
     place.put("a.yml", both(*sides))
     done = edit(place, "touch ../started", *place.by_file("old"), "a.yml")
-    ended("the edit", done, 1, "one side is a vault and the other is not; take one with `git checkout --ours -- ")
+    ended("the edit", done, 1, "one side is a vault and the other is not; take one side with `git checkout --ours -- ")
     assert not (place.path / "started").exists(), "no editor is started"
     assert place.get("a.yml") == both(*sides), "the file stays"
 

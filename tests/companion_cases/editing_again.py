@@ -232,7 +232,7 @@ def test_changed_meanwhile(place: Place, meanwhile: Meanwhile) -> None:
 
 
 def test_copies_of_strangers(place: Place) -> None:
-    """A directory of copies may be open to others, since copies are encrypted. But it is no link, and the user's own."""
+    """A directory of copies may be open to others, since copies are encrypted. It is the user's own, and no link."""
     place.put("a.yml", sealed("old"))
     words = [*place.by_file("old"), "a.yml"]
     state = place.path / "state"
@@ -242,9 +242,7 @@ def test_copies_of_strangers(place: Place) -> None:
     done = edit(place, 'cp "$1" ../seen', "--resume", *words)
     silent("it is open to others", done)
     assert place.get("../seen") == CHANGED, "what the editor shows"
-    ended(
-        "a failed edit", edit(place, f'echo more > "$1"; exit 3', *words), 1, f"is encrypted in {state}/ansible-vault/"
-    )
+    ended("another", edit(place, 'echo more > "$1"; exit 3', *words), 1, f"is encrypted in {state}/ansible-vault/")
     place.shell("mv ../state/ansible-vault ../state/real; ln -s real ../state/ansible-vault")
     why = f"({state}/ansible-vault is no directory of yours); set XDG_STATE_HOME to a directory of your own"
     ended("a link", edit(place, "touch ../started", "--resume", *words), 1, why)

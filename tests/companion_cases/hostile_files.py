@@ -174,7 +174,7 @@ def find_fault(place: Place, forks: Forks, command: str) -> str:
     if run.status not in statuses:
         return f"it has the status {run.status}: {run.errors[:500]}"
     # A line of advice follows one of the hook, or of an edit that leaves an encrypted copy.
-    lines = [line for line in run.errors.splitlines() if not re.match(rf"{companion}: |  \S|--resume reopens", line)]
+    lines = [line for line in run.errors.splitlines() if not re.match(rf"{companion}: |  \S|--resume opens", line)]
     lines += [line for line in run.errors.splitlines() if not line.isprintable()]
     if run.status and not run.errors:
         return "it fails without a word"

@@ -360,7 +360,7 @@ def test_two_of_a_label(place: Place) -> None:
     silent("what is there", edit(place, CHANGE, *two, "a.yml"))
     assert decrypted("dev", place.get("a.yml")) == CHANGED, "it keeps its password"
     place.put("values.yml", block("dev", label="prod"))
-    silent("a value that is there", edit(place, CHANGE, *two, "values.yml"))
+    ended("a value that is there", edit(place, CHANGE, *two, "values.yml"), 0, "encrypted secret (label prod)\n")
     assert texts(place.get("values.yml"), "dev") == [CHANGED], "it keeps its password, too"
     one = [*place.by_id("prod", "dev"), *place.by_id("prod", "dev"), *chosen]
     silent("one password", place.run(WITH, "encrypt", *one, "plain.yml"))

@@ -8,7 +8,7 @@ import pytest
 
 from ansible_vault_companions.editing.encrypting_password import Choice
 from ansible_vault_companions.editing.matching import DecryptedValue, find_matches
-from ansible_vault_companions.editing.typed_tags import check_tags
+from ansible_vault_companions.editing.typed_tags import check_typed_tags
 from ansible_vault_companions.envelopes import conflicts, header
 from ansible_vault_companions.envelopes.detection import may_have_envelope
 from ansible_vault_companions.envelopes.node import Node
@@ -47,7 +47,7 @@ WORKS: dict[str, Callable[[bytes], object]] = {
     "a line with a margin": lambda data: parse_envelopes(b"#" * len(data) + data),
     "a file without an envelope": may_have_envelope,
     "a whole vault": lambda data: header.is_whole_envelope(b"$ANSIBLE_VAULT;1.1;AES256\n" + data),
-    "typed tags": lambda data: check_tags([ParsedText(data)], ParsedText(data)),
+    "typed tags": lambda data: check_typed_tags(data, ParsedText(data)),
     "conflict markers": lambda data: (conflicts.is_unmerged(data), conflicts.split_sides(b"<<<<<<<\n" + data)),
 }
 

@@ -10,8 +10,8 @@ from typing import NamedTuple
 import pytest
 
 from ansible_vault_companions.envelopes.conflicts import OURS_MARKER, THEIRS_MARKER, join_sides, split_sides
-from companion_cases import CONFLICT, FOUND, MERGE, PASSWORDS, RESOLVE, Place, block, decrypted, described
-from companion_cases import ended, run_changed, sealed, silent, versions
+from companion_cases import CONFLICT, FOUND, MERGE, PASSWORDS, Place, block, decrypted, described
+from companion_cases import ended, how_to_resolve, run_changed, sealed, silent, versions
 from companion_cases.random_merges import Model, Value, common
 from companion_cases.repository import BASE, BOTH, OURS, SALTS, THEIRS, fork, repository, set_driver, under_git
 from model.vaults import seal, yaml_block
@@ -51,8 +51,8 @@ def test_branches(place: Place) -> None:
     set_driver(place, *place.by_file("old"))
     fork(place, *({name: each[number] for name, each in FILES.items()} for number in range(3)))
     done = place.shell("git merge --no-edit theirs")
-    why = f"{MERGE}: torn.yml: {WHOLE}both sides changed the same lines; {RESOLVE}\n"
-    ended("a merge", done, 1, why, f"{MERGE}: torn_values.yml: 1 conflict; {RESOLVE}\n")
+    why = f"{MERGE}: torn.yml: {WHOLE}both sides changed the same or adjacent lines; {how_to_resolve(':/torn.yml')}\n"
+    ended("a merge", done, 1, why, f"{MERGE}: torn_values.yml: 1 conflict; {how_to_resolve(':/torn_values.yml')}\n")
     unmerged = place.shell("git diff --name-only --diff-filter=U").stdout
     assert unmerged == "torn.yml\ntorn_values.yml\n", "the other files are merged"
     assert decrypted("old", place.get("vault.yml")) == BOTH, "both changes are in the vault"
@@ -360,7 +360,7 @@ def fail(name):
 os.memfd_create = fail
 """
     done = run_changed(place, MERGE, change, [*place.by_file("old"), *versions(place, "a.yml", *OLD)])
-    ended("the merge", done, CONFLICT, f"{MERGE}: a.yml: {WHOLE}Too many open files; {RESOLVE}\n")
+    ended("the merge", done, CONFLICT, f"{MERGE}: a.yml: {WHOLE}Too many open files; {how_to_resolve(':/a.yml')}\n")
     assert place.files() == {"a.yml": both(OLD[1:])}, "both are whole"
 
 

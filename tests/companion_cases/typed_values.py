@@ -207,6 +207,6 @@ def test_own_lines(lines: str) -> None:
     deeper = b"".join(b"  " + line if line.strip() else line for line in shown.splitlines(keepends=True))
     after = file.encrypt(Hexadecimal(), b"app:\n" + deeper).content
     assert after.endswith(deeper[deeper.index(b"\n", deeper.index(b"x\n")) + 1 :]), "lines with another margin"
-    after = file.encrypt(Hexadecimal(), shown.replace(b"  x", b"  S3cret", 1) + b"new: !vault S3cret\n")
-    assert (b"S3cret" in after.content, len(after.notes)) == (False, 2), "a value that is changed, and a new one"
-    assert lines.encode() in after.content
+    saved = file.encrypt(Hexadecimal(), shown.replace(b"  x", b"  S3cret", 1) + b"new: !vault S3cret\n")
+    assert (b"S3cret" in saved.content, len(saved.notes)) == (False, 2), "a value that is changed, and a new one"
+    assert lines.encode() in saved.content

@@ -14,7 +14,7 @@ from ansible_vault_companions.envelopes.header import MAGIC
 from ansible_vault_companions.envelopes.pointers import refuse_pointer
 from ansible_vault_companions.files import link_bounds, reading
 from ansible_vault_companions.git.pathspecs import make_pathspec
-from ansible_vault_companions.merging.file_merge import KINDS_DIFFER
+from ansible_vault_companions.merging.file_merge import KINDS_DIFFER, TAKE_SIDE
 from ansible_vault_companions.merging.line_merge import Versions, merge_lines
 from ansible_vault_companions.merging.unmerged_file import find_versions
 from ansible_vault_companions.merging.vault_merge import VaultMerge
@@ -28,7 +28,7 @@ NOTHING_TO_EDIT = (
     "it is not a vault, and no value in it has the tag `!vault`; encrypt it with `ansible-vault-with encrypt`, or "
     "write `NAME: !vault TEXT` in it for a single value and run this again"
 )
-ONE_SIDE = f"{KINDS_DIFFER}; take one with `git checkout --ours -- {{}}` or with `--theirs`"
+ONE_SIDE = f"{KINDS_DIFFER}; {TAKE_SIDE}"
 TO_ADD = "; or, to add values without seeing the others, choose a password for the new ones with --encrypt-vault-id"
 
 

@@ -7,12 +7,12 @@ may move.
 from __future__ import annotations
 
 import re
+from bisect import bisect_right
 from collections import Counter
 from collections.abc import Iterator
 
 from ansible_vault_companions.envelopes.node import PLAIN, Node
 from ansible_vault_companions.envelopes.parsed_text import ParsedText
-from ansible_vault_companions.envelopes.yaml_nodes import PROPERTIES
 from ansible_vault_companions.refusals import Refused
 
 DIRECTIVE = b"%TAG"
@@ -25,7 +25,8 @@ LOOKALIKE = re.compile(
     rb"avult|vualt|valut|vautl)(?!\w))",
     re.IGNORECASE,
 )
-TAG = re.compile(rb"[^ \t\r\n]*")
+# A tag, and what precedes the text of a scalar besides: anchor, comments.
+TAG = re.compile(rb"(![^ \t\r\n]*)(?:[ \t\r\n]|&[-\w]*|(?<=[ \t\r\n])#[^\r\n]*)*")
 # What may follow a text without quotes in its line.
 REST = re.compile(rb"[ \t,\]}]*(?:[\r\n]|\Z)")
 
@@ -56,29 +57,30 @@ def check_typed_tags(shown: bytes, saved: ParsedText) -> None:
 
 def _find_faults(saved: ParsedText) -> Iterator[tuple[int, bytes, str]]:
     """The number and content of each line with something that looks like a tag, and what is wrong with it."""
-    values = {value.begin: value for value in saved.values if value.is_tagged}
+    values = [value for value in saved.values if value.is_tagged]
+    begins = [value.begin for value in values]
     place = 0
     for number, line in enumerate(saved.data.splitlines(keepends=True), 1):
         for found in LOOKALIKE.finditer(line):
-            tag = place + found.start()
-            properties = PROPERTIES.match(saved.data, tag)
-            assert properties
-            value = values.get(properties.end())
-            if value and _is_cut_short(saved.data, tag, value):
-                yield number, line, CUT_SHORT
-                break
+            begin = place + found.start()
+            tag = TAG.match(saved.data, begin)
+            assert tag
+            value = values[bisect_right(begins, tag.end()) - 1] if values else None
+            why = ""
+            if value and value.begin == tag.end():
+                why = CUT_SHORT if _is_cut_short(saved.data, tag.end(1), value) else ""
             # The word may also be in a text that is encrypted.
-            if not value and not any(value.begin <= tag < value.end for value in values.values()):
-                yield number, line, NO_VALUE
+            elif not (value and value.begin <= begin < value.end):
+                why = NO_VALUE
+            if why:
+                yield number, line, why
                 break
         place += len(line)
 
 
-def _is_cut_short(data: bytes, tag: int, value: Node) -> bool:
+def _is_cut_short(data: bytes, tag_end: int, value: Node) -> bool:
     """Whether YAML takes the beginning of a text without quotes for an anchor or a comment, or its end for something
     else."""
     if value.style != PLAIN or value.is_envelope:
         return False
-    after_tag = TAG.match(data, tag)
-    assert after_tag
-    return data[after_tag.end() : value.begin].strip() != b"" or not REST.match(data, value.end)
+    return data[tag_end : value.begin].strip() != b"" or not REST.match(data, value.end)

@@ -9,21 +9,25 @@ from typing import NamedTuple
 
 from ansible_vault_companions.envelopes import conflicts
 from ansible_vault_companions.envelopes.header import MAGIC
-from ansible_vault_companions.envelopes.pointers import refuse_pointer
-from ansible_vault_companions.merging.line_merge import MOST_CONFLICTS, Versions
+from ansible_vault_companions.envelopes.pointers import Pointer, refuse_pointer
+from ansible_vault_companions.merging.line_merge import MOST_CONFLICTS, OneSideOnly, Versions
 from ansible_vault_companions.merging.value_merge import ValueMerge
 from ansible_vault_companions.merging.vault_merge import VaultMerge
 from ansible_vault_companions.refusals import Refused
 from ansible_vault_companions.tool import Decrypt, Key, Tool
 
 NOT_MERGED = "not merged, so both sides are whole in the file: {}"
+# What to do with a conflict in the file that this pathspec names.
+TAKE_SIDE = "take one side with `git checkout --ours -- {}` or with `--theirs`"
+RESOLVE = f"resolve with ansible-vault-edit, or {TAKE_SIDE}"
 KINDS_DIFFER = "one side is a vault and the other is not"
 
 
 class MergedFile(NamedTuple):
     content: bytes
-    # Why it has a conflict; empty if it has none.
+    # Why it has a conflict, empty if it has none; and what to do then.
     why: str = ""
+    advice: str = RESOLVE
 
 
 def merge_file(tool: Tool, decrypt: Decrypt, versions: Versions, chosen: Key | None) -> MergedFile:
@@ -40,10 +44,11 @@ def merge_file(tool: Tool, decrypt: Decrypt, versions: Versions, chosen: Key | N
         if all(are_vaults):
             return MergedFile(_merge_vaults(tool, decrypt, versions, chosen))
         if any(are_vaults):
-            raise Refused(KINDS_DIFFER)
+            raise OneSideOnly(KINDS_DIFFER)
         return _merge_values(tool, decrypt, versions, chosen)
     except Refused as fault:
-        return MergedFile(conflicts.join_sides(ours, theirs), NOT_MERGED.format(fault))
+        advice = TAKE_SIDE if isinstance(fault, (OneSideOnly, Pointer)) else RESOLVE
+        return MergedFile(conflicts.join_sides(ours, theirs), NOT_MERGED.format(fault), advice)
 
 
 def _merge_vaults(tool: Tool, decrypt: Decrypt, versions: Versions, chosen: Key | None) -> bytes:

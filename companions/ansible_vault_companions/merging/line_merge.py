@@ -21,6 +21,10 @@ NOT_MERGED = 255
 END_OF_CONFLICT = END_MARKER + b" " + THEIRS.encode()
 
 
+class OneSideOnly(Refused):
+    """Sides that an edit cannot merge either, so that one of them has to be taken as a whole."""
+
+
 class Versions(NamedTuple):
     """Three versions of a file or of its text."""
 
@@ -59,5 +63,5 @@ def merge_lines(versions: Versions, *options: str) -> MergedLines:
     if done.returncode not in (*range(MOST_CONFLICTS + 1), NOT_MERGED):
         raise commands.make_refusal(words[0], done.returncode, done.stderr)
     if done.returncode > min(MOST_CONFLICTS, done.stdout.count(END_OF_CONFLICT)):
-        raise Refused("git merge-file cannot merge it; it may be binary")
+        raise OneSideOnly("git merge-file cannot merge it; it may be binary")
     return MergedLines(done.stdout, done.returncode)

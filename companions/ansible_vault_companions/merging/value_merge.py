@@ -17,7 +17,16 @@ from ansible_vault_companions.envelopes import conflicts
 from ansible_vault_companions.envelopes.layout import Replacement, apply_replacements, replace_envelope
 from ansible_vault_companions.envelopes.node import LITERAL, LOOSE, STRAY, Node
 from ansible_vault_companions.envelopes.parsed_text import ParsedText, parse_envelopes
-from ansible_vault_companions.merging.line_merge import BASE, OURS, SIDES, THEIRS, MergedLines, Versions, merge_lines
+from ansible_vault_companions.merging.line_merge import (
+    BASE,
+    OURS,
+    SIDES,
+    THEIRS,
+    MergedLines,
+    OneSideOnly,
+    Versions,
+    merge_lines,
+)
 from ansible_vault_companions.merging.result_key import choose_value_key
 from ansible_vault_companions.parallel import work_at_once
 from ansible_vault_companions.refusals import Refused
@@ -58,7 +67,7 @@ class ValueMerge:
         """The merged file."""
         text, count = merge_lines(Versions(*(self._shadow(side) for side in SIDES)))
         if count and any(conflicts.count_markers(parsed.data) for parsed in self.parsed.values()):
-            raise Refused(HAS_MARKERS)
+            raise OneSideOnly(HAS_MARKERS)
         # Lines that keep values apart; at the end of a file without a last line end, with the line end above them.
         line = rb"%s/[^\n]*" % self.mark
         text = re.sub(rb"(?m)^%s\n|\r?\n(?:%s\n)*%s\Z" % (line, line, line), b"", text)

@@ -15,7 +15,7 @@ class VaultMerge:
 
     def __init__(self, decrypt: Decrypt, versions: Versions) -> None:
         # Why their merge may have a conflict.
-        self.why = "both sides changed the same lines"
+        self.why = "both sides changed the same or adjacent lines"
         self.ours = _decrypt_side(OURS, decrypt, versions.ours)
         self.theirs = _decrypt_side(THEIRS, decrypt, versions.theirs)
         text, self.base_keys = self._decrypt_base(decrypt, versions.base)
