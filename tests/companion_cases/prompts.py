@@ -143,6 +143,8 @@ OF_PROD = typed("prod", "Vault password (prod): ", "Confirm new vault password (
 BY_LABEL = "--vault-id prod@prompt --encrypt-vault-id prod"
 BOTH = "--vault-id dev@../secrets/dev --vault-id prod@prompt"
 OF_ANOTHER = block("dev", b"one", "dev", "a")
+# Values with two labels, of which one stays encrypted.
+OF_TWO = OF_ANOTHER + block("new", b"two", "other", "b")
 # Questions for the label of a new value.
 WHICH = [("Label to encrypt word with (dev, prod): ", label) for label in (b"stage\n", b" prod \n")]
 
@@ -159,7 +161,7 @@ ONLY_ENCRYPTING = {
     "a new value": Encryption(line=f"{EDIT} -J a.yml", before=NEW_VALUE, answers=typed("prod", ASKED, AGAIN)),
     "a label that is typed": Encryption(
         line=f"{EDIT} {BOTH} a.yml < /dev/tty",
-        before=OF_ANOTHER + NEW_VALUE,
+        before=OF_TWO + NEW_VALUE,
         answers=[OF_PROD[0], *WHICH, OF_PROD[1]],
     ),
     "one that is set": Encryption(
@@ -189,6 +191,52 @@ def test_what_only_encrypts(place: Place, what: str, is_mistyped: bool) -> None:
         assert place.get("a.yml") == before, "nothing is changed"
     else:
         assert (session.returncode, header, found and found[0]) == (0, wanted, "prod"), session
+
+
+class NewValue(NamedTuple):
+    """A file, more options, what is said before the editor opens, and the label of the new value."""
+
+    before: bytes
+    words: list[str]
+    said: str
+    label: str
+
+
+GETS = "new values get the label {}; --encrypt-vault-id chooses another"
+NEW_VALUES = {
+    "the label of all values": NewValue(OF_ANOTHER, [], GETS.format("dev"), "dev"),
+    "a chosen label": NewValue(OF_ANOTHER, ["--encrypt-vault-id=prod"], GETS.format("prod"), "prod"),
+    "one label of several": NewValue(OF_TWO, ["--encrypt-vault-id=prod"], GETS.format("prod"), "prod"),
+}
+
+
+@pytest.mark.parametrize("has_terminal", (True, False))
+@pytest.mark.parametrize("row", NEW_VALUES.values(), ids=NEW_VALUES)
+def test_label_of_new_values(place: Place, row: NewValue, has_terminal: bool) -> None:
+    """It is known before the editor opens, said at a terminal, and no question follows."""
+    place.put("a.yml", row.before)
+    words = [EDIT, *place.by_id("dev", "dev"), *place.by_id("prod", "prod"), *row.words, "a.yml"]
+    editor = place.script("echo 'word: !vault new' >> \"$1\"", "editor")
+    done = ask(place, *READING, *words, answers=[], EDITOR=editor) if has_terminal else place.run(*words, EDITOR=editor)
+    lines = [
+        line.removeprefix(f"{EDIT}: a.yml: ") for line in done.stderr.splitlines() if "stays encrypted" not in line
+    ]
+    said = [row.said] if has_terminal else []
+    assert (done.returncode, lines) == (0, [*said, f"encrypted word (label {row.label})"]), done
+    assert texts(place.get("a.yml"), row.label)[-1] == b"new", "it gets the password of its label"
+
+
+def test_no_label_of_new_values(place: Place) -> None:
+    """If the values have several labels and none is chosen, a new value is refused without a terminal, and no password
+    may read a copy."""
+    place.put("a.yml", OF_TWO)
+    words = [EDIT, *place.by_id("dev", "dev"), *place.by_id("prod", "prod"), "a.yml"]
+    done = place.run(*words, EDITOR=place.script("echo 'word: !vault new' >> \"$1\"", "editor"))
+    assert done.returncode == 1 and "word is new; choose its password with --encrypt-vault-id" in done.stderr, done
+    assert "what you saved is left in plaintext in " in done.stderr and place.copies() == [], done
+    assert place.get("a.yml") == OF_TWO, "the file stays"
+    done = place.run(*words, EDITOR=place.script('sed -i s/one/One/ "$1"', "editor"))
+    assert done.returncode == 0 and "encrypted a (label dev)\n" in done.stderr, "a value that is there may change"
 
 
 def test_label_of_a_new_vault(place: Place) -> None:
