@@ -4,7 +4,7 @@ from typing import NamedTuple
 import pytest
 
 from companion_cases import CHECK, EDIT, FOUND, PASSWORDS, ROTATE, TEXT, WITH, Place, block, decrypted, described
-from companion_cases import sealed, texts
+from companion_cases import Done, sealed, texts
 from companion_cases.terminal import FOR_ANSIBLE, READING, READY, SHELL, Session, ask
 from lib.needs import needs_ansible
 
@@ -217,7 +217,10 @@ def test_label_of_new_values(place: Place, row: NewValue, has_terminal: bool) ->
     place.put("a.yml", row.before)
     words = [EDIT, *place.by_id("dev", "dev"), *place.by_id("prod", "prod"), *row.words, "a.yml"]
     editor = place.script("echo 'word: !vault new' >> \"$1\"", "editor")
-    done = ask(place, *READING, *words, answers=[], EDITOR=editor) if has_terminal else place.run(*words, EDITOR=editor)
+    done: Session | Done = place.run(*words, EDITOR=editor)
+    if has_terminal:
+        place.put("a.yml", row.before)
+        done = ask(place, *READING, *words, answers=[], EDITOR=editor)
     lines = [
         line.removeprefix(f"{EDIT}: a.yml: ") for line in done.stderr.splitlines() if "stays encrypted" not in line
     ]
