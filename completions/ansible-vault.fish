@@ -72,7 +72,7 @@ complete -c ansible-vault-edit -l vault-id -x -a '(__ansible_vault_ids)' -d 'the
 complete -c ansible-vault-edit -l vault-password-file -l vault-pass-file -x -a '(__ansible_vault_files)' -d 'the source of a password'
 complete -c ansible-vault-edit -s J -l ask-vault-password -l ask-vault-pass -d 'ask at the terminal for a password'
 complete -c ansible-vault-edit -l any-label -d 'accept a password whose label differs from the vault'"'"'s'
-complete -c ansible-vault-edit -l encrypt-vault-id -x -d 'the label of the password for new vaults and values'
+complete -c ansible-vault-edit -l encrypt-vault-id -x -d 'the label for new vaults and values'
 complete -c ansible-vault-edit -l value -x -d 'set this value from standard input, without an editor'
 complete -c ansible-vault-edit -l resume -d 'reopen what the last edit could not store in FILE'
 complete -c ansible-vault-edit -l discard -d 'remove what the last edit could not store in FILE'

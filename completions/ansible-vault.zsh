@@ -115,7 +115,7 @@ _ansible_vault_specifications() {
             '*'{--vault-password-file=,--vault-pass-file=}'[the source of a password]:SOURCE:_ansible_vault_files'
             '*'{-J,--ask-vault-password,--ask-vault-pass}'[ask at the terminal for a password]'
             '--any-label[accept a password whose label differs from the vault'\''s]'
-            '--encrypt-vault-id=[the label of the password for new vaults and values]:LABEL: '
+            '--encrypt-vault-id=[the label for new vaults and values]:LABEL: '
             '(--resume --value)--value=[set this value from standard input, without an editor]:KEY.PATH: '
             '(--resume --value)--resume[reopen what the last edit could not store in FILE]'
             '--discard[remove what the last edit could not store in FILE]'

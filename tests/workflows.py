@@ -14,7 +14,7 @@ from companion_cases.terminal import READY, SHELL, ask
 from lib.needs import needs, needs_pyyaml
 from lib.paths import COMPANIONS, ROOT, sections
 from lib.readme import fenced, steps_of
-from lib.repository import MARKS, PASSWORDS, SETTINGS, Repository, block, vault
+from lib.repository import MARKS, PASSWORDS, SETTINGS, Repository, block, vault, without_reports
 from model.vaults import yaml_block
 
 DOCUMENT = (ROOT / "docs" / "workflows.md").read_text()
@@ -465,6 +465,6 @@ def test_companion_example(repository: Repository, name: str, title: str) -> Non
         assert b"<<<<<<<" in repository.get(VAULT), "git alone tears the vault"
     ran = repository.shell(shell, EDITOR=editor, EDITOR_OF_TEST=editor, secret="correct horse", GIT_EDITOR="true")
     assert ran.returncode == (1 if "--dry-run" in shell else 0), ran
-    assert ran.stderr == "", "nothing fails"
+    assert without_reports(ran.stderr) == "", "nothing fails"
     if name == "ansible-vault-merge":
         assert repository.shown(VIEW) == MERGED, "it has the changes of both sides"

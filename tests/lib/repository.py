@@ -2,6 +2,7 @@
 
 import os
 import pathlib
+import re
 import termios
 
 from companion_cases import Place, wait_until
@@ -21,6 +22,11 @@ PASSWORDS = {
 # The document's lines for .gitattributes.
 MARKS = "*.vault.yml diff=ansible-vault merge=ansible-vault\nvault.yml diff=ansible-vault merge=ansible-vault\n"
 SETTINGS = "[defaults]\nvault_identity_list = prod@~/.vault/prod.pass\n"
+
+
+def without_reports(errors: str) -> str:
+    """Return what programs print on standard error, without the lines in which edits say what they encrypted."""
+    return re.sub("(?m)^ansible-vault-edit: .*: encrypted .*\n", "", errors)
 
 
 def vault(text: bytes, password: str = "prod.pass", label: str = "prod") -> bytes:
@@ -48,7 +54,7 @@ class Repository(Place):
     def shown(self, text: str, **variables: str) -> str:
         """Run shell commands, which must end well, and return what they print."""
         done = self.shell(text, **variables)
-        assert (done.returncode, done.stderr) == (0, ""), text
+        assert (done.returncode, without_reports(done.stderr)) == (0, ""), text
         return done.stdout
 
     def pasted(self, shell: str, password: str) -> str:
