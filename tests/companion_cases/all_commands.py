@@ -95,19 +95,17 @@ STEPS = [change_vault, change_value, add_file, rename_file, remove_file, empty_v
 
 
 class Leak(NamedTuple):
-    """What a file was, what takes its place, what the hook says of it, and whether --all, which compares no values with
-    what they were, finds it."""
+    """What a file was, what takes its place, and what the hook says of it."""
 
     name: str
     before: bytes
     after: bytes
     why: str
-    is_in_all: bool = True
 
 
 LEAKS = [
     Leak("leak/secrets.yml", VAULTS[0], TEXT, "is not encrypted, but was a vault in"),
-    Leak("leak.yml", BLOCKS[0], b"db_password: plain\n", "has db_password in plaintext, which was encrypted in", False),
+    Leak("leak.yml", BLOCKS[0], b"db_password: plain\n", "has db_password in plaintext, which was encrypted in"),
     Leak("marked/leak.txt", b"", TEXT, "is not encrypted"),
     Leak("leak.txt", b"", VAULTS[0][:-9], "is a damaged vault"),
     Leak(
@@ -237,8 +235,7 @@ class Watch(NamedTuple):
     def run_hook(self, name: str, leak: Leak | None) -> None:
         """Run the hook for what is staged, and for the last commits."""
         state = STATES[name]
-        of_all = state.all if leak is None or leak.is_in_all else 0
-        statuses = {"": state.staged, "--all": of_all, "--since HEAD": state.since_this}
+        statuses = {"": state.staged, "--all": state.all, "--since HEAD": state.since_this}
         first = self.team.place.run("git", "rev-list", "--max-parents=0", "HEAD").stdout.split()
         for base in ("HEAD~1", *first):
             statuses[f"--since {base}"] = state.since_earlier

@@ -200,7 +200,6 @@ MISREAD = {
     "b: 'x\n": "line 2: it cannot be read as YAML: found unexpected end of stream",
     "b: !vault |-\n  x\ny\n": "line 4: it cannot be read as YAML: could not find expected ':'",
     "b: !vault x\n# c: !vault y\n": "line 2: this is new and looks like `!vault`, but is no tag of a value",
-    "b: !vault x\n  - !vault |\n  y\n  # z\n": "line 2: this is new and looks like `!vault`, but is no tag of a value",
     "!vault b: x\n": "line 1: this value is a list, a mapping or a key, not a string",
     "b: !vault &c x\n": f"line 1: {CUT_SHORT}",
     "b: !vault x #y\n": f"line 1: {CUT_SHORT}",

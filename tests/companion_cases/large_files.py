@@ -60,7 +60,7 @@ def test_edits(place: Place) -> None:
     before = write_file()
     place.put("vars.yml", before)
     done = edit(place, 'sed -i "s/text of secret7$/changed text/" "$1"', *place.by_file("old"), "vars.yml")
-    silent("an edit", done)
+    check_answer("an edit", done, errors=f"{EDIT}: vars.yml: encrypted secret7 (label default)\n")
     (name, envelope), *others = find_changed(before, place.get("vars.yml")).items()
     assert (name, decrypted("old", envelope), others) == ("secret7", b"the changed text\n", [])
     place.put("vars.yml", before)
@@ -114,7 +114,8 @@ def test_aliases(place: Place) -> None:
     old = place.by_file("old")
     assert place.run(CHECK, *old, "vars.yml").returncode == 0
     assert place.run(TEXTCONV, *old, "vars.yml").stdout.endswith(ALIASES.decode())
-    silent("an edit", edit(place, 'sed -i "s/correct/wrong/" "$1"', *old, "vars.yml"))
+    done = edit(place, 'sed -i "s/correct/wrong/" "$1"', *old, "vars.yml")
+    check_answer("an edit", done, errors=f"{EDIT}: vars.yml: encrypted secret (label default)\n")
     assert place.run(ROTATE, *to_new(place), "vars.yml").returncode == 0
     assert place.get("vars.yml").endswith(ALIASES), "only the value is changed"
     place.run("git", "add", "vars.yml")

@@ -163,10 +163,10 @@ def check_refused(command: str, outcome: Outcome, why: str, status: int) -> None
     assert outcome.is_shown == (command == "several views"), "no vault but the other one is shown"
 
 
-def check_followed(command: str, outcome: Outcome, file: str) -> None:
+def check_followed(command: str, outcome: Outcome, file: str, message: str = "") -> None:
     writes = COMMANDS[command].writes
     changed = [file] if writes else []
-    wanted = Outcome(COMMANDS[command].status, message="", changed=changed, is_shown=not writes)
+    wanted = Outcome(COMMANDS[command].status, message, changed=changed, is_shown=not writes)
     assert outcome == wanted, "it is followed"
 
 
@@ -187,7 +187,8 @@ def test_each_link(place: Place, name: str, is_repository: bool, subtests: SubTe
             elif kind.file not in FILES and command != "edit":
                 check_refused(command, outcome, f": {kind.path}: {MISSING}", 3 if command in BY_PROGRAM else 1)
             else:
-                check_followed(command, outcome, kind.file)
+                made = f"{EDIT}: {kind.path}: encrypted the new vault (label default)\n"
+                check_followed(command, outcome, kind.file, message="" if kind.file in FILES else made)
 
 
 @pytest.mark.parametrize("owner", (NOBODY, 0))

@@ -237,5 +237,6 @@ def test_create(place: Place) -> None:
     """Options reach ansible-vault-edit, and a word of newer releases is ignored."""
     words = ["--skip-tty-check", *place.by_id("dev", "dev"), *place.by_id("prod", "prod"), "--encrypt-vault-id", "prod"]
     editor = place.script('echo more >> "$1"', "editor")
-    silent("create", place.run(WITH, "create", *words, "c.yml", EDITOR=editor))
+    done = place.run(WITH, "create", *words, "c.yml", EDITOR=editor)
+    check_answer("create", done, errors="ansible-vault-edit: c.yml: encrypted the new vault (label prod)\n")
     assert decrypted("prod", place.get("c.yml")) == b"more\n"

@@ -441,13 +441,13 @@ def test_slow_parse(place: Place, git: None, line: str) -> None:
 
 
 def test_later_edits(place: Place) -> None:
-    """A signal ends the second edit of a command, and a resumed one. What was saved is kept each time."""
+    """A signal ends the second edit of a command, and a resumed one. What was saved is kept each time, in one copy."""
     prepare_runs(place)
     place.put("b.yml", sealed("old"))
     kill = 'case "$1" in */b.yml) touch ../saved; kill -TERM $PPID; sleep 0.1;; esac'
-    for number, words in enumerate((["a.yml", "b.yml"], ["--resume", "b.yml"], ["--resume", "b.yml"]), 1):
+    for words in (["a.yml", "b.yml"], ["--resume", "b.yml"], ["--resume", "b.yml"]):
         done = edit(place, f"{CHANGE}; {kill}", *place.by_file("old"), *words)
-        assert (done.returncode, place.kept()) == (-signal.SIGTERM, [CHANGED] * number), done.stderr
+        assert (done.returncode, place.kept()) == (-signal.SIGTERM, [CHANGED]), done.stderr
         assert "b.yml: signal 15 ended the edit; what you saved is encrypted in " in done.stderr
         assert [decrypted("old", place.get(name)) for name in ("a.yml", "b.yml")] == [CHANGED, TEXT]
     assert (place.left(), os.listdir(place.temporary)) == ([], []), "nothing is left"

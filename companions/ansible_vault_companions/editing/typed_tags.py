@@ -17,14 +17,16 @@ from ansible_vault_companions.refusals import Refused
 
 DIRECTIVE = b"%TAG"
 # What looks like the tag: `!`, blanks or not, and a word that begins with `vault` or is one slip away from that: a
-# letter is missing, wrong or too many, or two are swapped. No letter precedes the `!`, as in `So far! Vault`.
+# letter is missing, wrong or too many, or two are swapped. A run of blanks and exclamation marks is taken once.
 LOOKALIKE = re.compile(
-    rb"(?<![\w\x80-\xff])![ \t!<]*(?:vault|(?:"
+    rb"([ \t!<]+)(vault|(?:"
     rb"[-\w]?ault|v[-\w]?ult|va[-\w]?lt|vau[-\w]?t|vaul[-\w]?|"
     rb"[-\w]vault|v[-\w]ault|va[-\w]ult|vau[-\w]lt|vaul[-\w]t|"
-    rb"avult|vualt|valut|vautl)(?!\w))",
+    rb"avult|vualt|valut|vautl)(?!\w))?",
     re.IGNORECASE,
 )
+# No letter precedes the `!`, as in `So far! Vault`.
+BEGIN = re.compile(rb"(?<![\w\x80-\xff])!")
 # A tag, and what precedes the text of a scalar besides: anchor, comments.
 TAG = re.compile(rb"(![^ \t\r\n]*)(?:[ \t\r\n]|&[-\w]*|(?<=[ \t\r\n])#[^\r\n]*)*")
 # What may follow a text without quotes in its line.
@@ -61,8 +63,8 @@ def _find_faults(saved: ParsedText) -> Iterator[tuple[int, bytes, str]]:
     begins = [value.begin for value in values]
     place = 0
     for number, line in enumerate(saved.data.splitlines(keepends=True), 1):
-        for found in LOOKALIKE.finditer(line):
-            begin = place + found.start()
+        for start in _find_lookalikes(line):
+            begin = place + start
             tag = TAG.match(saved.data, begin)
             assert tag
             value = values[bisect_right(begins, tag.end()) - 1] if values else None
@@ -76,6 +78,14 @@ def _find_faults(saved: ParsedText) -> Iterator[tuple[int, bytes, str]]:
                 yield number, line, why
                 break
         place += len(line)
+
+
+def _find_lookalikes(line: bytes) -> Iterator[int]:
+    """Where in a line each thing that looks like the tag begins."""
+    for found in LOOKALIKE.finditer(line):
+        begin = BEGIN.search(line, found.start(), found.end(1)) if found[2] else None
+        if begin:
+            yield begin.start()
 
 
 def _is_cut_short(data: bytes, tag_end: int, value: Node) -> bool:

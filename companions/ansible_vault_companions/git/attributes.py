@@ -8,6 +8,7 @@ from functools import lru_cache
 from subprocess import CompletedProcess
 from typing import Any, Collection, Iterable, NamedTuple
 
+from ansible_vault_companions import signals
 from ansible_vault_companions.files import reading
 from ansible_vault_companions.files.link_bounds import find_repository
 from ansible_vault_companions.git.commands import make_refusal, run_git, run_git_command
@@ -39,8 +40,8 @@ def read_attributes(names: Collection[bytes], commit: str) -> tuple[dict[bytes, 
     if commit and done.returncode == INVALID_OPTION:
         import tempfile
 
-        # Before version 2.40, git reads attributes from an index alone.
-        with tempfile.TemporaryDirectory(prefix="ansible-vault-hook-") as private:
+        # Before version 2.40, git reads attributes from an index alone. A signal must not leave that behind.
+        with signals.Postponement(), tempfile.TemporaryDirectory(prefix="ansible-vault-hook-") as private:
             variables = {"GIT_INDEX_FILE": os.path.join(private, "index")}
             run_git("read-tree", commit, variables=variables)
             done = _ask(names, "--cached", variables=variables)
