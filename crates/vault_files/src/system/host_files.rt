@@ -30,6 +30,12 @@ impl<'a, R: Files> Model for HostFiles<'a, R> {
     ghost view = { λ host. host.log.calls };
 }
 
+/// A file that was opened for writing. Only this module can call the standard library on it.
+#[derive(Drop)]
+pub struct HostFile<R: Files> {
+    file: R::File,
+}
+
 /// The outcome of a call, of whose value nothing is recorded.
 fn done<T>(called: &io::Result<T>) -> Outcome<()>
     ensures { result ≡ done called.now }
@@ -91,7 +97,7 @@ impl<'a, R: Files> HostFiles<'a, R> {
         opened
     }
 
-    pub(super) fn open_to_write(&mut self, path: &str, mode: u32) -> io::Result<R::File>
+    pub(super) fn open_to_write(&mut self, path: &str, mode: u32) -> io::Result<HostFile<R>>
         ensures { self.new ≡ self.old ++ HostCall.OpenToWrite path.now mode (done result) ∷ [] }
     {
         let mut options = OpenOptions::new();
@@ -99,47 +105,50 @@ impl<'a, R: Files> HostFiles<'a, R> {
         options.mode(mode);
         let opened = options.open(self.files, path);
         self.note(HostCall::OpenToWrite(path.as_bytes(), mode, done(&opened)));
-        opened
+        match opened {
+            Ok(file) => Ok(HostFile { file }),
+            Err(error) => Err(error),
+        }
     }
 
-    pub(super) fn metadata(&mut self, file: &R::File) -> io::Result<Metadata>
+    pub(super) fn metadata(&mut self, file: &HostFile<R>) -> io::Result<Metadata>
         ensures { self.new ≡ self.old ++ HostCall.Metadata (outcome file_type result) ∷ [] }
     {
-        let metadata = file.metadata();
+        let metadata = file.file.metadata();
         self.note(HostCall::Metadata(type_found(&metadata)));
         metadata
     }
 
-    pub(super) fn set_permissions(&mut self, file: &R::File, mode: u32) -> io::Result<()>
+    pub(super) fn set_permissions(&mut self, file: &HostFile<R>, mode: u32) -> io::Result<()>
         ensures { self.new ≡ self.old ++ HostCall.SetPermissions mode (done result) ∷ [] }
     {
-        let changed = file.set_permissions(Permissions::from_mode(mode));
+        let changed = file.file.set_permissions(Permissions::from_mode(mode));
         self.note(HostCall::SetPermissions(mode, done(&changed)));
         changed
     }
 
-    pub(super) fn set_len(&mut self, file: &R::File, size: u64) -> io::Result<()>
+    pub(super) fn set_len(&mut self, file: &HostFile<R>, size: u64) -> io::Result<()>
         ensures { self.new ≡ self.old ++ HostCall.SetLen size (done result) ∷ [] }
     {
-        let changed = file.set_len(size);
+        let changed = file.file.set_len(size);
         self.note(HostCall::SetLen(size, done(&changed)));
         changed
     }
 
-    pub(super) fn write_some(&mut self, file: &mut R::File, bytes: &[u8]) -> io::Result<usize>
+    pub(super) fn write_some(&mut self, file: &mut HostFile<R>, bytes: &[u8]) -> io::Result<usize>
         ensures call { self.new
             ≡ self.old ++ HostCall.Write bytes.now (outcome (λ count. count) result) ∷ [] }
         ensures bound { IfOk result (λ count. count ≤ length bytes.now) }
     {
-        let written = file.write(bytes);
+        let written = file.file.write(bytes);
         self.note(HostCall::Write(bytes, count_written(&written)));
         written
     }
 
-    pub(super) fn sync_all(&mut self, file: &R::File) -> io::Result<()>
+    pub(super) fn sync_all(&mut self, file: &HostFile<R>) -> io::Result<()>
         ensures { self.new ≡ self.old ++ HostCall.SyncAll (done result) ∷ [] }
     {
-        let synced = file.sync_all();
+        let synced = file.file.sync_all();
         self.note(HostCall::SyncAll(done(&synced)));
         synced
     }

@@ -1,6 +1,6 @@
 //! What files need from the system, made up of calls that are recorded.
 use super::System;
-use super::host_files::HostFiles;
+use super::host_files::{HostFile, HostFiles};
 use std::fs::Files;
 use std::io;
 use std::io::ErrorKind;
@@ -17,7 +17,7 @@ impl<'a, R: Files> System for HostFiles<'a, R> {
 
     type Reader = ReadSource<R::File>;
 
-    type Writer = R::File;
+    type Writer = HostFile<R>;
 
     ghost executes = { Executed };
 
@@ -46,25 +46,25 @@ impl<'a, R: Files> System for HostFiles<'a, R> {
         }
     }
 
-    fn create(&mut self, path: &str) -> io::Result<R::File> {
+    fn create(&mut self, path: &str) -> io::Result<HostFile<R>> {
         self.open_to_write(path, OWNER_ONLY)
     }
 
-    fn chmod_owner_only(&mut self, file: &R::File) -> io::Result<()> {
+    fn chmod_owner_only(&mut self, file: &HostFile<R>) -> io::Result<()> {
         if !self.metadata(file)?.is_file() {
             return Ok(());
         }
         self.set_permissions(file, OWNER_ONLY)
     }
 
-    fn truncate(&mut self, file: &R::File) -> io::Result<()> {
+    fn truncate(&mut self, file: &HostFile<R>) -> io::Result<()> {
         if !self.metadata(file)?.is_file() {
             return Ok(());
         }
         self.set_len(file, 0)
     }
 
-    fn write(&mut self, file: &mut R::File, bytes: &[u8]) -> io::Result<usize> {
+    fn write(&mut self, file: &mut HostFile<R>, bytes: &[u8]) -> io::Result<usize> {
         match self.write_some(file, bytes) {
             Ok(0) => Err(ErrorKind::WriteZero.into()),
             Ok(count) => Ok(count),
@@ -72,7 +72,7 @@ impl<'a, R: Files> System for HostFiles<'a, R> {
         }
     }
 
-    fn sync(&mut self, file: &R::File) -> io::Result<()> {
+    fn sync(&mut self, file: &HostFile<R>) -> io::Result<()> {
         match self.sync_all(file) {
             Ok(()) => Ok(()),
             Err(error) if error.kind() == ErrorKind::InvalidInput => Ok(()),
