@@ -1,6 +1,7 @@
 """ansible-vault-edit: what an edit of a vault or of values changes, what it leaves alone, and where plaintext is."""
 
 import os
+import re
 from typing import NamedTuple
 
 import pytest
@@ -224,6 +225,30 @@ def test_refused_forms(place: Place, text: str) -> None:
     ended("the edit", done, 1, f"vars.yml: {MISREAD[text]}", f"; what you saved is encrypted in {place.copies()[0]}\n")
     assert place.kept() == [text.encode()], "what was typed is kept"
     assert place.get("vars.yml") == before, "the file stays"
+
+
+# What is typed, with blanks at the end of a text or in lines below it, and what is encrypted.
+BLANKS = {
+    "b: !vault |-\n  x \n": b"x ",
+    "b: !vault |\n  x\t\nc: 1\n": b"x\t\n",
+    "b: !vault |-\n  x \n            \nc: 1\n": b"x \n          ",
+    'b: !vault "x"\n            \nc: 1\n': b"x",
+    "b: !vault x  \n            \n\n": b"x",
+    "l:\n  - !vault >-\n    x \n              \n": b"x \n          ",
+    "b: !vault |-\r\n  x \r\n            \r\nc: 1\r\n": b"x \n          ",
+}
+
+
+@pytest.mark.parametrize("text", BLANKS)
+@pytest.mark.parametrize("old", [b"x", b"x "])
+def test_blanks(place: Place, text: str, old: bytes) -> None:
+    """An envelope has no blanks behind it, nor in lines below it: Ansible would take them for a part of it."""
+    done = type_into(place, block("old", old, name="b"), text)
+    assert done.returncode == 0, done
+    written = place.get("vars.yml")
+    assert re.search(rb"(?m)^[ ]+[0-9a-f]*[ \t]+\r?$", written) is None, "no digits with blanks behind them"
+    lines = re.findall(rb"(?m)^ {10,}([$0-9a-f].*)\r?$|^ {10,}([$0-9a-f].*)\Z", written.replace(b"\r", b""))
+    assert decrypted("old", b"\n".join(first or last for first, last in lines) + b"\n") == BLANKS[text]
 
 
 # Lines that a file may have beside a value.

@@ -17,6 +17,7 @@ from ansible_vault_companions.envelopes.layout import (
     NOT_UTF_8,
     Replacement,
     apply_replacements,
+    drop_blanks,
     find_column,
     find_line_end,
     put_envelope,
@@ -181,7 +182,8 @@ def _write(data: bytes, value: Node, match: Match, envelope: bytes) -> list[Repl
     kept = match.kept
     if kept and (value.is_flow, find_column(data, value.begin)) == (kept.value.is_flow, kept.column):
         if value.is_flow or not data[value.end : find_line_end(data, value.end)].strip():
-            return [Replacement(value.begin, value.end, kept.scalar)]
+            same = Replacement(value.begin, value.end, kept.scalar)
+            return [same, drop_blanks(data, value.end)] if kept.value.style == LITERAL else [same]
     return put_envelope(data, value, envelope)
 
 

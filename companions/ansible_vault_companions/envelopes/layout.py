@@ -13,6 +13,8 @@ from ansible_vault_companions.refusals import Refused
 UNSHOWN = "[\0-\x08\x0b-\x1f\x7f-\x9f\u2028\u2029\ud800-\udfff\ufeff\ufffe\uffff]"
 BLOCK_HEADER = re.compile(rb"[|>][-+0-9]*")
 BEGINS_WITH_BLANK = re.compile(rb"\n*[ \t]")
+# Blanks up to the end of a line, and lines of blanks below it.
+BLANKS_BELOW = re.compile(rb"(?:[ \t]*(?:(?:\r\n?|\n)[ \t]*)*(?=[\r\n]|\Z))?")
 # What precedes a key or the text of an item in its line.
 DASHES = re.compile(rb" *(?:- +)*")
 NOT_UTF_8 = "it is not UTF-8"
@@ -81,7 +83,17 @@ def put_envelope(data: bytes, value: Node, envelope: bytes) -> list[Replacement]
     # Empty lines above a typed text go with it: Ansible reads no envelope below one.
     end = header.end() if header else value.end
     place = find_line_end(data, end)
-    return [Replacement(value.begin, end, b"|"), Replacement(place, max(place, value.end), value.ending + lines)]
+    stop = max(place, value.end)
+    block = Replacement(place, stop, value.ending + lines)
+    return [Replacement(value.begin, end, b"|"), block, drop_blanks(data, stop)]
+
+
+def drop_blanks(data: bytes, place: int) -> Replacement:
+    """Removes the blanks behind a block, and those of lines below it that have nothing else: they would be a part of
+    it, and Ansible reads no envelope with blanks."""
+    found = BLANKS_BELOW.match(data, place)
+    assert found
+    return Replacement(place, found.end(), found[0].translate(None, b" \t"))
 
 
 def put_in_quotes(value: Node, text: str) -> Replacement:
