@@ -131,7 +131,7 @@ def test_refused_secrets(place: Place, name: str, option: str, line: str, conten
 
 @pytest.mark.parametrize("name", COMPANIONS)
 def test_help(name: str) -> None:
-    """It fits a screen, but those with the rules of the hook and all of Ansible's commands. How many lines the usage has
+    """It fits a screen, unless it has the rules of the hook or all of Ansible's commands. How many lines the usage has
     depends on Python's release."""
     text = run_text([str(COMPANIONS[name]), "--help"]).stdout
     lines = text.splitlines()

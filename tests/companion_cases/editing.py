@@ -197,6 +197,7 @@ CUT_SHORT = "only a part of the text after `!vault` would be encrypted; put it i
 # What is refused if it is typed, and why. `yaml_values.py` has what is encrypted.
 MISREAD = {
     "b: !vault\n": "line 1: b is missing after `!vault`",
+    "b: !vault |-\nc: not below it\n": "line 1: b is missing after `!vault`",
     "b: !vault [a]\n": "line 1: b is a list, a mapping or a key, not a string",
     "b: 'x\n": "line 2: it cannot be read as YAML: found unexpected end of stream",
     "b: !vault |-\n  x\ny\n": "line 4: it cannot be read as YAML: could not find expected ':'",

@@ -24,7 +24,7 @@ from ansible_vault_companions.envelopes.layout import (
     put_in_quotes,
     put_plaintext,
 )
-from ansible_vault_companions.envelopes.node import ALIAS, LITERAL, NO_SCALAR, PLAIN, Node
+from ansible_vault_companions.envelopes.node import ALIAS, FOLDED, LITERAL, NO_SCALAR, PLAIN, Node
 from ansible_vault_companions.envelopes.parsed_text import ParsedText, parse_nodes, require_nodes
 from ansible_vault_companions.parallel import work_at_once
 from ansible_vault_companions.quoting import escape
@@ -194,7 +194,7 @@ def _is_to_be_encrypted(value: Node, closed: set[bytes]) -> bool:
         return False
     if value.style in (NO_SCALAR, ALIAS) or value.is_key:
         raise Refused(f"{describe_place(value)} {NOT_A_STRING}")
-    if value.style == PLAIN and not value.text:
+    if value.style in (PLAIN, LITERAL, FOLDED) and not value.text:
         raise Refused(f"{describe_place(value)} {NOTHING_TYPED}")
     if is_like_a_vault:
         raise Refused(f"{describe_place(value)} {LIKE_A_VAULT}")
