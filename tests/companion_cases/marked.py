@@ -129,18 +129,22 @@ OVERLOOKED = {
 @pytest.mark.parametrize("name", [".gitattributes", ".git/info/attributes"])
 @pytest.mark.parametrize("what", OVERLOOKED)
 def test_overlooked_marks(place: Place, what: str, name: str) -> None:
-    """If git cannot read a mark, the check lets no file pass for one without, and the hook passes on what git says. The
-    check itself reads each .gitattributes first."""
+    """What git overlooks with a warning, check and hook pass on, and go on: other marks count. A .gitattributes that
+    cannot be read, the check refuses before."""
     change, warning = OVERLOOKED[what]
     if name == ".gitattributes" and warning == NO_ACCESS:
         return
     under_git(place, "")
     place.put("a.vault.yml", sealed("old"))
     place.put(name, ATTRIBUTES.encode())
+    place.put("plain.vault.yml", TEXT)
     place.shell(f"git add a.vault.yml; chmod -R a+w .; {change.format(name)}")
     place.environment |= {"GIT_CONFIG_COUNT": "1", "GIT_CONFIG_KEY_0": "safe.directory", "GIT_CONFIG_VALUE_0": "*"}
-    done = place.as_nobody(CHECK, *place.by_file("old"), ".")
-    ended("the check", done, 1, f"{CHECK}: git check-attr failed: ", warning)
+    done = place.as_nobody(CHECK, *place.by_file("old"), "a.vault.yml")
+    ended("the check of a vault", done, 0, f"{CHECK}: git check-attr: ", warning)
+    if warning != NO_ACCESS:
+        done = place.as_nobody(CHECK, *place.by_file("old"), ".")
+        ended("the check of a plaintext", done, 1, "plain.vault.yml: is not encrypted", "1 failed")
     if name != ".gitattributes":
         ended("the hook", place.as_nobody(HOOK), 0, f"{HOOK}: git check-attr: ", warning)
 

@@ -12,6 +12,8 @@ from ansible_vault_companions import signals
 from ansible_vault_companions.files import reading
 from ansible_vault_companions.files.link_bounds import find_repository
 from ansible_vault_companions.git.commands import make_refusal, run_git, run_git_command
+from ansible_vault_companions.output import write_error
+from ansible_vault_companions.quoting import escape
 from ansible_vault_companions.refusals import Refused, describe_refusal
 
 Done = CompletedProcess[bytes]
@@ -73,20 +75,25 @@ def make_line(name: bytes) -> str:
     return f"{_make_pattern(name)} -{VAULT}"
 
 
-def find_marked(paths: Iterable[tuple[str, Collection[str]]]) -> set[str]:
+def report_warnings(program: str, warnings: Iterable[str]) -> None:
+    """Passes on what git overlooks with a warning, such as a negative pattern, once each."""
+    for warning in dict.fromkeys(warnings):
+        write_error(f"{program}: git {CHECK}: {escape(warning)}")
+
+
+def find_marked(paths: Iterable[tuple[str, Collection[str]]]) -> tuple[set[str], list[str]]:
     """Of these paths, each with its real path and that of its file, those that are marked in the repository that they
-    are in, if any. A link counts by its own name, too."""
-    marked = set[str]()
+    are in, if any; and what git says that it overlooks. A link counts by its own name, too."""
+    marked, warnings = set[str](), []
     for folder, names in _group_by_repository(paths).items():
         _require_readable(folder, names)
         listed = [*names]
         for start in range(0, len(listed), AT_ONCE):
             some = listed[start : start + AT_ONCE]
             attributes, overlooked = _read_answer(some, _ask(some, folder=folder))
-            if overlooked:
-                raise Refused(f"git {CHECK} failed: {' '.join(overlooked)}")
+            warnings += overlooked
             marked.update(names[name] for name, given in attributes.items() if given.is_marked)
-    return marked
+    return marked, warnings
 
 
 def _require_readable(repository: str, names: Iterable[bytes]) -> None:

@@ -5,7 +5,7 @@ from __future__ import annotations
 import os
 
 from ansible_vault_companions.git import changes
-from ansible_vault_companions.git.attributes import Attributes, make_line, read_attributes
+from ansible_vault_companions.git.attributes import Attributes, make_line, read_attributes, report_warnings
 from ansible_vault_companions.git.changes import DIGITS, Changes, File
 from ansible_vault_companions.git.contents import Contents
 from ansible_vault_companions.git.pathspecs import make_pathspec
@@ -61,12 +61,11 @@ def _read_attributes(program: str, all_changes: list[Changes]) -> dict[str, dict
     names: dict[str, set[bytes]] = {}
     for each in all_changes:
         names.setdefault(each.marks, set()).update(file.name for file in each.files)
-    attributes, warnings = {}, dict[str, None]()
+    attributes, warnings = {}, []
     for marks, files in names.items():
         attributes[marks], overlooked = read_attributes(files, marks)
-        warnings.update(dict.fromkeys(overlooked))
-    for warning in warnings:
-        write_error(f"{program}: git check-attr: {escape(warning)}")
+        warnings += overlooked
+    report_warnings(program, warnings)
     return attributes
 
 
