@@ -1,6 +1,6 @@
 //! The files of the system, and a record of the calls on them. Only this module can call the
 //! standard library on these files, and only it can add to the record.
-ghost use Rattle.std.specs.Prelude.{◌≡◌, ◌∷◌, ◌++◌, ◌≤◌, IfOk, [], length};
+ghost use Rattle.std.specs.Prelude.{◌≡◌, ◌∷◌, ◌++◌, ◌≤◌, IfOk, [], false, length};
 ghost use Rattle.std.specs.Fs.{file_type};
 ghost use Rattle.vault_files.specs.HostCall.{done, noted, outcome};
 
@@ -14,6 +14,7 @@ use std::io::Write;
 use std::marker::Model;
 use std::os::unix::fs::{OpenOptionsExt, PermissionsExt};
 use std::{fs, io};
+use vault_text::ReadSource;
 
 /// The files of the system. A clause sees it as the calls that were made on them so far.
 #[derive(Drop)]
@@ -89,12 +90,14 @@ impl<'a, R: Files> HostFiles<'a, R> {
 /// program calls the standard library on a file, except to read it, and to open a directory in
 /// place of a closed stream.
 impl<'a, R: Files> HostFiles<'a, R> {
-    pub(super) fn open_to_read(&mut self, path: &str) -> io::Result<R::File>
-        ensures { self.new ≡ self.old ++ HostCall.OpenToRead path.now (done result) ∷ [] }
+    pub(super) fn open_to_read(&mut self, path: &str) -> io::Result<ReadSource<R::File>>
+        ensures call { self.new ≡ self.old ++ HostCall.OpenToRead path.now (done result) ∷ [] }
+        ensures unended { IfOk result (λ reader. reader.device.ended ≡ false) }
+        ensures unfailed { IfOk result (λ reader. reader.device.failures ≡ 0) }
     {
         let opened = fs::open(self.files, path);
         self.note(HostCall::OpenToRead(path.as_bytes(), done(&opened)));
-        opened
+        opened.map(ReadSource::new)
     }
 
     pub(super) fn open_to_write(&mut self, path: &str, mode: u32) -> io::Result<HostFile<R>>

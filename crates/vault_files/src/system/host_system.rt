@@ -40,10 +40,7 @@ impl<'a, R: Files> System for HostFiles<'a, R> {
     ghost break_found = { λ s path r t xs n opened gives short risen. any-break xs n short };
 
     fn open(&mut self, path: &str) -> io::Result<ReadSource<R::File>> {
-        match self.open_to_read(path) {
-            Ok(file) => Ok(ReadSource::new(file)),
-            Err(error) => Err(error),
-        }
+        self.open_to_read(path)
     }
 
     fn create(&mut self, path: &str) -> io::Result<HostFile<R>> {
