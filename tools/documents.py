@@ -38,6 +38,7 @@ TRUSTED = {
     "`vault_files/src/system/host_files.rt`": [
         rf"(^    pub\(super\) fn {name}\(&mut self.*?\n)        ensures .*?(^    \{{.*?^    \}})" for name in HOST_CALLS
     ],
+    "`vault_text/src/sink/write/flushing.rt`": [r"(^pub fn flush\b.*?\n)    ensures .*?(^\{.*?^\})"],
 }
 BLOCK = re.compile(r"(^```(?:rust|antt)\n)(.*?)(^```$)", re.MULTILINE | re.DOTALL)
 # A call or a definition, and its file below crates/.

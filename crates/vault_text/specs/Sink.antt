@@ -5,6 +5,8 @@ use Rattle.std.specs.Io.KnownBytes.{Appends}
 use Rattle.vault_text.specs.Failures.{FailingState}
 use Rattle.vault_text.specs.declared.sink.Stage.{Stage}
 use Rattle.vault_text.specs.declared.sink.Stage.TheVariants.{Unbegun, Begun, Finished}
+use Rattle.vault_text.specs.declared.sink.write.State.{State}
+use Rattle.vault_text.specs.declared.sink.write.State.TheVariants as state
 
 -- the bytes that a call took of the bytes it was offered
 abbrev pub taken : {E : Type 0} → Result ℕ E → List ℕ → List ℕ
@@ -27,6 +29,12 @@ abbrev pub has_begun : Stage → Bool
 has_begun Unbegun = false
 has_begun Begun = true
 has_begun Finished = true
+
+-- the stage of a sink over a writer
+abbrev pub stage_of : State → Stage
+stage_of state.Unbegun = Unbegun
+stage_of state.Begun = Begun
+stage_of (state.Finished flush) = Finished
 
 -- a sink over memory: its bytes, how many its memory can hold, its stage, its failures, and the
 -- most bytes that it takes per call

@@ -1,56 +1,49 @@
 //! A sink over `std::io::Write`.
-ghost use Rattle.std.specs.Prelude.{◌≡◌, [], IfOk, IsErr, OnOk, OnErr};
-ghost use Rattle.std.specs.Io.KnownBytes.{Keeps};
+ghost use Rattle.std.specs.Prelude.{◌≡◌, [], IsErr, OnOk, OnErr};
 ghost use Rattle.vault_text.specs.Failures.{CountsFailure, IsSaturated};
+
+mod flushing;
 
 use super::{Sink, SinkFailed, Stage};
 use crate::byte_log::ByteLog;
 use crate::failure_count::FailureCount;
-use std::io;
+use flushing::{SuccessfulFlush, flush};
 use std::io::Write;
 use std::marker::Model;
+
+/// The state of the sink.
+#[derive(Drop)]
+pub enum State {
+    Unbegun,
+    Begun,
+    Finished(SuccessfulFlush),
+}
 
 /// A sink over a writer. Every error of the writer is a failure, and so is a write that takes
 /// nothing. `finish` flushes the writer.
 #[derive(Drop)]
 pub struct WriteSink<W: Write> {
     writer: W,
-    stage: Stage,
+    state: State,
     failures: FailureCount,
     /// What the writer took.
     log: ByteLog,
-    /// What it had taken when it was last flushed.
-    flushed: ByteLog,
 }
 
 impl<W: Write> Model for WriteSink<W> {
-    ghost use Rattle.std.specs.Prelude.{◌≡◌};
     ghost use Rattle.vault_text.specs.Recorded.{Recorded};
-    ghost use Rattle.vault_text.specs.Sink.{SinkState};
-    ghost use Rattle.vault_text.specs.declared.sink.Stage.{Stage};
+    ghost use Rattle.vault_text.specs.Sink.{SinkState, stage_of};
 
     ghost Value = { Recorded SinkState };
 
     ghost view = { λ s. record {
       device = record {
         held = W.contents s.writer;
-        stage = s.stage;
+        stage = stage_of s.state;
         failures = s.failures;
       };
       bytes = s.log.bytes;
     } };
-
-    ghost invariant = { λ s. s.stage ≡ Stage.Finished → s.flushed.bytes ≡ s.log.bytes };
-}
-
-/// Flushes a writer that took the bytes of `log`, and returns them as flushed. Trusted: no clause
-/// excludes a body that does not flush, or that hides an error.
-fn flush<W: Write>(writer: &mut W, log: &ByteLog) -> io::Result<ByteLog>
-    ensures kept { Keeps (W.contents writer.old) (W.contents writer.new) }
-    ensures flushed { IfOk result (λ flushed. flushed.bytes ≡ log.now.bytes) }
-{
-    writer.flush()?;
-    Ok(log.with(&[]))
 }
 
 impl<W: Write> WriteSink<W> {
@@ -63,10 +56,9 @@ impl<W: Write> WriteSink<W> {
     {
         WriteSink {
             writer,
-            stage: Stage::Unbegun,
+            state: State::Unbegun,
             failures: FailureCount::new(),
             log: ByteLog::new(),
-            flushed: ByteLog::new(),
         }
     }
 
@@ -109,7 +101,7 @@ impl<W: Write> Sink for WriteSink<W> {
         if self.failures.is_saturated() {
             return Err(SinkFailed);
         }
-        self.stage = Stage::Begun;
+        self.state = State::Begun;
         Ok(())
     }
 
@@ -130,10 +122,9 @@ impl<W: Write> Sink for WriteSink<W> {
         if self.failures.is_saturated() {
             return Err(SinkFailed);
         }
-        match flush(&mut self.writer, &self.log) {
+        match flush(&mut self.writer) {
             Ok(flushed) => {
-                self.flushed = flushed;
-                self.stage = Stage::Finished;
+                self.state = State::Finished(flushed);
                 Ok(())
             }
             Err(_) => self.failures.fail(SinkFailed),
