@@ -7,7 +7,6 @@ pub mod Program
 pub mod OpenedPaths
 pub mod Drive
 pub mod Loaded
-pub mod System
 pub mod InMemory
 pub mod Laws
 pub mod ProgramLaws

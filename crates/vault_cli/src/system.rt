@@ -2,11 +2,14 @@
 ghost use Rattle.std.specs.Prelude.{◌≡◌, [], map};
 ghost use Rattle.std.specs.String.{string_bytes};
 ghost use Rattle.clap.specs.Words.{fault_of};
+ghost use Rattle.vault_text.specs.Recorded.{Recorded};
+ghost use Rattle.vault_text.specs.Sink.{SinkState, new_sink};
+ghost use Rattle.vault_text.specs.Source.{SourceState, new_source};
+ghost use Rattle.vault_files.specs.HostCall.{HostCalls};
 ghost use Rattle.vault_request.specs.CommandLine.{vault_app};
 ghost use Rattle.vault_request.specs.Settled.{requested_by};
 ghost use Rattle.vault_cli.specs.Call.{sink, source, system};
 ghost use Rattle.vault_cli.specs.Drive.{Ends};
-ghost use Rattle.vault_cli.specs.System.{MayEnd, new_sink, new_source};
 
 use crate::program::drive_over;
 use crate::runs::Status;
@@ -38,9 +41,9 @@ pub fn drive_host<'a, F: Files, S: Source, K: Sink, E: Sink>(
     drive_over(host, alloc, words, src, out, err)
 }
 
-/// Runs the whole program, like `drive_over`, over the files of the system, any reader and two
-/// writers. The call consumes these, so no clause can name their contents afterwards: it says that
-/// there is a state of them that `drive_over` may leave with this status.
+/// Runs the whole program, like `drive_host`, over any reader and two writers. The call consumes
+/// these, so its clause cannot name what they and the record are afterwards: it says that there are
+/// some with which `drive_host` may return this status.
 pub fn drive<'a, F: Files, R: Read + Drop, O: Write + Drop, E: Write + Drop>(
     rt: &'a F,
     alloc: Global,
@@ -49,11 +52,13 @@ pub fn drive<'a, F: Files, R: Read + Drop, O: Write + Drop, E: Write + Drop>(
     stdout: O,
     stderr: E,
 ) -> Status
-    ensures { MayEnd ⟦<HostFiles<'a, F> as System>⟧ []
-        ⟦<ReadSource<R> as Source>⟧ (new_source (R.remaining stdin))
-        ⟦<WriteSink<O> as Sink>⟧ (new_sink (O.contents stdout))
-        ⟦<WriteSink<E> as Sink>⟧ (new_sink (E.contents stderr)) result
-        (map string_bytes words.now) }
+    ensures { let texts = map string_bytes words.now in
+        (host : HostCalls) × (src : Recorded SourceState) × (out err : Recorded SinkState)
+        × Ends (system ⟦<HostFiles<'a, F> as System>⟧ [] host)
+        (source ⟦<ReadSource<R> as Source>⟧ (new_source (R.remaining stdin)) src)
+        (sink ⟦<WriteSink<O> as Sink>⟧ (new_sink (O.contents stdout)) out)
+        (sink ⟦<WriteSink<E> as Sink>⟧ (new_sink (E.contents stderr)) err) result
+        (fault_of vault_app texts) (requested_by texts) }
 {
     let mut host = HostFiles::new(rt);
     let mut src = ReadSource::new(stdin);

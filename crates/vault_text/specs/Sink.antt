@@ -3,6 +3,7 @@ use Rattle.std.specs.Prelude.{◌≡◌, ℕ, ◌≤◌, List, [], take, Bool, t
 use Rattle.std.specs.Prelude.{Result, Ok, Err}
 use Rattle.std.specs.Io.KnownBytes.{Appends}
 use Rattle.vault_text.specs.Failures.{FailingState}
+use Rattle.vault_text.specs.Recorded.{Recorded}
 use Rattle.vault_text.specs.declared.sink.Stage.{Stage}
 use Rattle.vault_text.specs.declared.sink.Stage.TheVariants.{Unbegun, Begun, Finished}
 use Rattle.vault_text.specs.declared.sink.write.State.{State}
@@ -18,6 +19,11 @@ pub record SinkState : Type 0 where
   pub held : Option (List ℕ)
   pub stage : Stage
   pub failures : ℕ
+
+-- a sink over a writer with these contents
+abbrev pub new_sink : Option (List ℕ) → Recorded SinkState
+new_sink held =
+    record { device = record { held = held; stage = Unbegun; failures = 0 }; bytes = [] }
 
 -- between two states a sink took these bytes
 pub record Takes (old : SinkState) (taken : List ℕ) (new : SinkState) : Type 0 where

@@ -1,8 +1,9 @@
 -- What a contract sees of a source of bytes.
-use Rattle.std.specs.Prelude.{◌≡◌, ℕ, ◌≤◌, List, [], take, Bool, IsTrue, Option, Some}
+use Rattle.std.specs.Prelude.{◌≡◌, ℕ, ◌≤◌, List, [], take, Bool, IsTrue, false, Option, Some}
 use Rattle.std.specs.Prelude.{Result, Ok, Err}
 use Rattle.std.specs.Io.KnownBytes.{Consumes, IsAtEnd}
 use Rattle.vault_text.specs.Failures.{FailingState}
+use Rattle.vault_text.specs.Recorded.{Recorded}
 
 -- the bytes that a call gave, of a buffer that it filled from the start
 abbrev pub given : {E : Type 0} → Result ℕ E → List ℕ → List ℕ
@@ -15,6 +16,11 @@ pub record SourceState : Type 0 where
   pub left : Option (List ℕ)
   pub ended : Bool
   pub failures : ℕ
+
+-- a source over a reader that has this left
+abbrev pub new_source : Option (List ℕ) → Recorded SourceState
+new_source left =
+    record { device = record { left = left; ended = false; failures = 0 }; bytes = [] }
 
 -- between two states a source gave these bytes
 pub record Gives (old : SourceState) (given : List ℕ) (new : SourceState) : Type 0 where

@@ -1,6 +1,7 @@
 //! A sink over `std::io::Write`.
 ghost use Rattle.std.specs.Prelude.{◌≡◌, [], IsErr, OnOk, OnErr};
 ghost use Rattle.vault_text.specs.Failures.{CountsFailure, IsSaturated};
+ghost use Rattle.vault_text.specs.Sink.{new_sink};
 
 mod flushing;
 
@@ -49,10 +50,7 @@ impl<W: Write> Model for WriteSink<W> {
 impl<W: Write> WriteSink<W> {
     /// Appends to the contents of `writer`. Opening the sink does not call the writer.
     pub fn new(writer: W) -> Self
-        ensures { result ≡ record {
-          device = record { held = W.contents writer; stage = Stage.Unbegun; failures = 0 };
-          bytes = [];
-        } }
+        ensures { result ≡ new_sink (W.contents writer) }
     {
         WriteSink {
             writer,

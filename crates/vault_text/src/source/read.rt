@@ -1,8 +1,7 @@
 //! A source over `std::io::Read`.
-ghost use Rattle.std.specs.Prelude.{◌≡◌, ◌<◌, ◌≤◌, ◌↔◌, [], IsTrue, IsErr, IfOk, OnErr, false};
-ghost use Rattle.std.specs.Prelude.{length};
+ghost use Rattle.std.specs.Prelude.{◌≡◌, ◌<◌, ◌≤◌, ◌↔◌, IsTrue, IsErr, IfOk, OnErr, length};
 ghost use Rattle.vault_text.specs.Failures.{CountsFailure, IsSaturated};
-ghost use Rattle.vault_text.specs.Source.{given};
+ghost use Rattle.vault_text.specs.Source.{given, new_source};
 
 use super::{Source, SourceFailed};
 use crate::byte_log::ByteLog;
@@ -40,10 +39,7 @@ impl<R: Read> Model for ReadSource<R> {
 impl<R: Read> ReadSource<R> {
     /// Gives the bytes that `reader` gives from its current position on.
     pub fn new(reader: R) -> Self
-        ensures { result ≡ record {
-          device = record { left = R.remaining reader; ended = false; failures = 0 };
-          bytes = [];
-        } }
+        ensures { result ≡ new_source (R.remaining reader) }
     {
         ReadSource {
             reader,
