@@ -1,27 +1,30 @@
-"""Shows a file with plaintext in place of its envelopes."""
+"""Shows a file with plaintext in place of its envelopes, or one of its values."""
 
 from __future__ import annotations
 
 from ansible_vault_companions.envelopes import conflicts, detection
+from ansible_vault_companions.envelopes.header import MAGIC
 from ansible_vault_companions.envelopes.layout import Replacement, apply_replacements, put_plaintext
-from ansible_vault_companions.envelopes.node import LOOSE, STRAY, Node
-from ansible_vault_companions.envelopes.parsed_text import ParsedText, parse_envelopes
+from ansible_vault_companions.envelopes.node import ALIAS, LOOSE, NO_SCALAR, STRAY, Node
+from ansible_vault_companions.envelopes.parsed_text import (
+    NO_SCALAR_THERE,
+    VALUE_NOT_ENCRYPTED,
+    ParsedText,
+    parse_envelopes,
+    require_nodes,
+)
+from ansible_vault_companions.envelopes.pointers import refuse_pointer
 from ansible_vault_companions.output import write_error
 from ansible_vault_companions.parallel import work_at_once
+from ansible_vault_companions.quoting import escape
 from ansible_vault_companions.refusals import Refused
 from ansible_vault_companions.showing import first_line
-from ansible_vault_companions.showing.as_it_is import NoEnvelope
 from ansible_vault_companions.tool import Decrypt
-
-NO_ENVELOPE = "it is not a vault and has no encrypted value"
 
 
 def read_envelopes(target: str) -> ParsedText:
-    """A file and its envelopes. Refuses one without any."""
-    parsed = parse_envelopes(detection.read_envelope_file(target))
-    if not parsed.values:
-        raise NoEnvelope(NO_ENVELOPE)
-    return parsed
+    """A file and its envelopes, of which there may be none."""
+    return parse_envelopes(detection.read_envelope_file(target))
 
 
 def show_envelopes(companion: str, parsed: ParsedText, path: str, target: str, decrypt: Decrypt) -> list[bytes]:
@@ -72,3 +75,17 @@ def _try_to_show(data: bytes, value: Node, decrypt: Decrypt) -> list[Replacement
         return put_plaintext(data, value, decrypt(value.require_readable()).text)
     except Refused as fault:
         return fault
+
+
+def show_value(data: bytes, path: str, decrypt: Decrypt) -> bytes:
+    """The plaintext of a value in YAML, or in the plaintext of a vault."""
+    refuse_pointer(data)
+    is_vault = data.startswith(MAGIC)
+    value = require_nodes(decrypt(data).text if is_vault else data).find_value_at(path)
+    if value.is_envelope:
+        return decrypt(value.require_readable()).text
+    if not is_vault:
+        raise Refused(VALUE_NOT_ENCRYPTED.format(escape(path)))
+    if value.style in (NO_SCALAR, ALIAS):
+        raise Refused(NO_SCALAR_THERE.format(escape(path)))
+    return value.text

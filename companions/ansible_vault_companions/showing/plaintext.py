@@ -1,19 +1,27 @@
-"""Prints the plaintext of a file or of one of its values, or the file as it is."""
+"""Prints the plaintext of a file or of one of its values, or the file as it is. git asks for each version of each
+vault, so what only other files need is imported for these alone."""
 
 from __future__ import annotations
 
+import os
 from collections.abc import Callable
 from functools import partial
 
 from ansible_vault_companions import output
+from ansible_vault_companions.envelopes.header import MAGIC
 from ansible_vault_companions.files import link_bounds, reading
 from ansible_vault_companions.passwords.labels import Policy
 from ansible_vault_companions.passwords.password import Password
-from ansible_vault_companions.refusals import Refused
-from ansible_vault_companions.showing import commit_message, whole_vault
-from ansible_vault_companions.tool import Tool
+from ansible_vault_companions.quoting import escape
+from ansible_vault_companions.refusals import Refused, describe_fault
+from ansible_vault_companions.showing import first_line
+from ansible_vault_companions.tool import NotDecrypted, Tool
 
 NAME = "ansible-vault-textconv"
+# The file with git's commit message. `git commit -v` writes the diff into it, and it stays.
+MESSAGE = "COMMIT_EDITMSG"
+WOULD_STAY = f"its plaintext would stay in git's file {MESSAGE}; `git diff --cached` shows it"
+NO_ENVELOPE = "it is not a vault and has no encrypted value"
 
 
 def print_plaintext(
@@ -21,53 +29,77 @@ def print_plaintext(
 ) -> None:
     """Prints a typed file or, if one is named, only a value of it."""
     target = link_bounds.resolve_file(path)
-    if commit_message.is_commit_message_open():
+    if _is_commit_message_open():
         if value is not None:
-            raise Refused(commit_message.WOULD_STAY)
-        _show_as_it_is(path, target, Refused(commit_message.WOULD_STAY))
+            raise Refused(WOULD_STAY)
+        _print_as_it_is(path, target, WOULD_STAY)
         return
     passwords, policy = load()
-    if value is None:
-        _show(companion, path, target, passwords, policy)
-    else:
+    if value is not None:
         _print_value(companion, value, target, passwords, policy)
-
-
-def _show(companion: str, path: str, target: str, passwords: list[Password], policy: Policy) -> None:
+        return
     try:
-        pieces = _decrypt_file(companion, path, target, passwords, policy)
+        pieces = _show_vault(companion, target, passwords, policy)
+        if pieces is None:
+            pieces = _show_values(companion, path, target, passwords, policy)
     except (Refused, reading.TooLong) as fault:
-        _show_as_it_is(path, target, fault)
-    else:
-        for piece in pieces:
-            output.write_data(piece)
+        _print_as_it_is(path, target, describe_fault(fault, target))
+        return
+    if pieces is None:
+        _print_as_it_is(path, target, NO_ENVELOPE, first_line.NOTHING)
+        return
+    for piece in pieces:
+        output.write_data(piece)
 
 
-def _show_as_it_is(path: str, target: str, fault: Exception) -> None:
-    # Only this needs the module.
-    from ansible_vault_companions.showing import as_it_is
-
-    as_it_is.show_as_it_is(NAME, path, target, fault)
+def _is_commit_message_open() -> bool:
+    """Whether git has its commit message open, and so may write into it what is shown."""
+    return any(os.path.basename(os.path.realpath(file)) == MESSAGE for file in os.scandir("/proc/self/fd"))
 
 
-def _decrypt_file(companion: str, path: str, target: str, passwords: list[Password], policy: Policy) -> list[bytes]:
-    """What is shown of a file: plaintext in place of its envelopes, as far as they can be decrypted and shown. It is in
-    pieces, since it may be long."""
-    text = whole_vault.decrypt_whole_vault(companion, target, passwords, policy)
-    if text is not None:
-        return [text]
-    # The modules for any other file take longer to import than most vaults to decrypt.
+def _show_vault(companion: str, target: str, passwords: list[Password], policy: Policy) -> list[bytes] | None:
+    """What is shown of a file that is a vault. None for any other file, and if the program finds more than a vault in
+    it, such as git's conflict markers."""
+    vault = reading.read_if_begins(target, MAGIC)
+    if not vault:
+        return None
+    tool = Tool(companion, only_shows=True)
+    try:
+        decrypted = tool.decrypt(vault, passwords, policy)
+    except NotDecrypted:
+        raise
+    except Refused:
+        return None
+    return [first_line.describe_vault(decrypted.key.label), decrypted.text]
+
+
+def _show_values(
+    companion: str, path: str, target: str, passwords: list[Password], policy: Policy
+) -> list[bytes] | None:
+    """What is shown of any other file; None if it has no envelope."""
+    # This takes longer to import than most vaults to decrypt.
     from ansible_vault_companions.showing import file_with_values
 
     parsed = file_with_values.read_envelopes(target)
-    tool = Tool(companion, only_shows=True)
-    decrypt = partial(tool.decrypt, passwords=passwords, policy=policy)
+    if not parsed.values:
+        return None
+    decrypt = partial(Tool(companion, only_shows=True).decrypt, passwords=passwords, policy=policy)
     return file_with_values.show_envelopes(NAME, parsed, path, target, decrypt)
 
 
+def _print_as_it_is(path: str, target: str, why: str, line: bytes = first_line.AS_IT_IS) -> None:
+    """Prints a file piece by piece, since one that is not a vault may have any length. A message says why."""
+    output.write_error(f"{NAME}: {escape(path)}: shown as it is: {why}")
+    pieces = reading.read_pieces(target)
+    # First, since there may be no file to show.
+    beginning = next(pieces, b"")
+    output.write_data(line + beginning)
+    for piece in pieces:
+        output.write_data(piece)
+
+
 def _print_value(companion: str, path: str, target: str, passwords: list[Password], policy: Policy) -> None:
-    # Only this needs the module.
-    from ansible_vault_companions.showing import one_value
+    from ansible_vault_companions.showing import file_with_values
 
     decrypt = partial(Tool(companion).decrypt, passwords=passwords, policy=policy)
-    output.write_data(one_value.show_value(reading.read_existing(target), path, decrypt))
+    output.write_data(file_with_values.show_value(reading.read_existing(target), path, decrypt))
