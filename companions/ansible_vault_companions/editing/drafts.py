@@ -15,7 +15,7 @@ from ansible_vault_companions.envelopes.pointers import refuse_pointer
 from ansible_vault_companions.files import link_bounds, reading
 from ansible_vault_companions.git.pathspecs import make_pathspec
 from ansible_vault_companions.merging.file_merge import KINDS_DIFFER, TAKE_SIDE
-from ansible_vault_companions.merging.line_merge import Versions, merge_lines
+from ansible_vault_companions.merging.line_merge import Versions, join_lines
 from ansible_vault_companions.merging.unmerged_file import find_versions
 from ansible_vault_companions.merging.vault_merge import VaultMerge
 from ansible_vault_companions.passwords.labels import Policy
@@ -115,14 +115,14 @@ class Loader:
         if content is None:
             link_bounds.require_folder(target)
             return VaultDraft(target, None, self.choice.choose_key("the new vault", "the vault"))
-        versions = find_versions(target, content)
-        if versions:
+        if conflicts.is_unmerged(content):
+            versions = find_versions(target, content)
+            if not versions:
+                raise Refused(conflicts.LONG)
             return self._load_conflict(target, content, versions)
         if content.startswith(MAGIC):
             decrypted = self.decrypt(content)
             return VaultDraft(target, content, keep_key(decrypted), decrypted.text)
-        if conflicts.is_unmerged(content):
-            raise Refused(conflicts.LONG)
         return self._load_values(target, content)
 
     def _load_conflict(self, target: str, content: bytes, versions: Versions) -> Draft:
@@ -136,11 +136,7 @@ class Loader:
         if any(are_vaults):
             raise Refused(ONE_SIDE.format(make_pathspec(target)))
         ours, theirs = YamlText(versions.ours, self.decrypt), YamlText(versions.theirs, self.decrypt)
-        shown = Versions(ours.shown.data, self._show_base(versions.base), theirs.shown.data)
-        if shown.ours and shown.theirs:
-            text = merge_lines(shown).text
-        else:
-            text = conflicts.join_sides(shown.ours, shown.theirs)
+        text = join_lines(Versions(ours.shown.data, self._show_base(versions.base), theirs.shown.data))
         draft = self._make_yaml_draft(target, content, [ours, theirs], text)
         # Where both sides have a text, one that has changed its envelope comes first.
         draft.opened.sort(key=lambda old: old.scalar in versions.base)

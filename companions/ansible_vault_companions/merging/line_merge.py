@@ -38,13 +38,14 @@ class MergedLines(NamedTuple):
     conflicts: int
 
 
-def join_lines(ours: bytes, theirs: bytes) -> bytes:
-    """A conflict of two texts, with markers around the lines in which they differ."""
-    if not (ours and theirs):
+def join_lines(versions: Versions) -> bytes:
+    """Git's merge, with markers around what both sides changed or, without a base, around all that differs."""
+    if not (versions.ours and versions.theirs):
         # Without a base, git would take the other one.
-        return join_sides(ours, theirs)
-    # With a base in each conflict, git would not look for lines that are the same.
-    return merge_lines(Versions(ours, b"", theirs), "-c", "merge.conflictStyle=merge").text
+        return join_sides(versions.ours, versions.theirs)
+    # With an empty base in each conflict, git would not look for lines that are the same.
+    options = () if versions.base else ("-c", "merge.conflictStyle=merge")
+    return merge_lines(versions, *options).text
 
 
 def merge_lines(versions: Versions, *options: str) -> MergedLines:

@@ -39,4 +39,4 @@ def _merge_vaults(sides: Versions, decrypt: Decrypt) -> list[bytes]:
 def _join_sides(sides: Versions, show: Callable[[bytes], list[bytes]]) -> list[bytes]:
     """The sides as they are shown by themselves, each with its first line, below that of ours."""
     (first, ours), (_, theirs) = show(sides.ours), show(sides.theirs)
-    return [first, join_lines(ours, theirs)]
+    return [first, join_lines(Versions(ours, b"", theirs))]
