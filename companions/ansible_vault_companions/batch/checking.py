@@ -3,8 +3,9 @@
 from __future__ import annotations
 
 from dataclasses import dataclass
+from typing import Iterable
 
-from ansible_vault_companions.batch.each_envelope import Work
+from ansible_vault_companions.batch.each_envelope import Result, Work, change_envelopes
 from ansible_vault_companions.batch.places import Place
 from ansible_vault_companions.batch.report import DECRYPTED, FAILED, LISTED, OTHER_LABEL, Report, Total
 from ansible_vault_companions.envelopes import conflicts, damage, file_kinds
@@ -32,18 +33,17 @@ class Check(Work):
     marked: set[str]
     names_values = True
 
-    def process_file(self, found: FoundFile, parsed: ParsedText, report: Report) -> None:
-        """Checks a file. It is marked if one of its paths is."""
-        path = next((path for path in found.paths if path in self.marked), found.paths[0])
-        is_marked = path in self.marked
+    def finish_file(
+        self, found: FoundFile, path: str, parsed: ParsedText, results: Iterable[Result], report: Report
+    ) -> None:
         why = file_kinds.find_fault(parsed, found.names)
         try:
-            self.change_envelopes(parsed, path, report, is_prose=parsed.is_prose)
+            change_envelopes(parsed, results, path, report)
         except Refused as fault:
             why = why or str(fault)
         if damage.is_unmerged(parsed):
             why = f"{conflicts.UNMERGED}; {RESOLVE.format(make_pathspec(path))}"
-        if is_marked and parsed.data.strip() and not (why or report.count(FAILED)):
+        if path in self.marked and parsed.data.strip() and not (why or report.count(FAILED)):
             why = damage.find_unencrypted(parsed)
         if why:
             report.add_file(FAILED, path, why)
@@ -77,7 +77,7 @@ class Check(Work):
             report.add_envelope(FAILED, place, str(fault))
         if conflicts.is_unmerged(result.text):
             report.add_envelope(FAILED, place, f"its plaintext {conflicts.UNMERGED}")
-        self.change_envelopes(parse_envelopes(result.text), place.path, report, outer=place)
+        self.change_plaintext(parse_envelopes(result.text), place, report)
 
 
 def summarize(total: Total, is_list: bool, has_labels: bool) -> str:

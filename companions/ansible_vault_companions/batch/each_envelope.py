@@ -2,8 +2,8 @@
 
 from __future__ import annotations
 
-from concurrent.futures import Executor
 from dataclasses import dataclass
+from typing import Iterable, Optional, Tuple
 
 from ansible_vault_companions.batch.places import Place, find_place
 from ansible_vault_companions.batch.report import FAILED, KEPT, ROTATED, TO_BE_ROTATED, Report
@@ -16,13 +16,15 @@ from ansible_vault_companions.refusals import Refused
 from ansible_vault_companions.tool import Decryption, NotDecrypted, Tool
 
 
+# The text that takes the place of an envelope, None if it stays; and the report on it.
+Result = Tuple[Optional[bytes], Report]
+
+
 @dataclass
 class Work:
     """What is done with each envelope of a file, and with those in its plaintext."""
 
     tool: Tool
-    # What takes the envelopes of a file.
-    pool: Executor
     # What labels mean to the passwords.
     policy: Policy
     # Whether messages name values and labels.
@@ -30,12 +32,14 @@ class Work:
     # How many envelopes are done. Threads count them for the user to see, and two of them may once count as one.
     done = 0
 
-    def process_file(self, found: FoundFile, parsed: ParsedText, report: Report) -> bytes | None:
-        """Works on a file, in a thread. Returns its new content; None if it stays."""
+    def finish_file(
+        self, found: FoundFile, path: str, parsed: ParsedText, results: Iterable[Result], report: Report
+    ) -> bytes | None:
+        """Reports on a file when its envelopes are done. Returns its new content; None if it stays."""
         raise NotImplementedError
 
     def write_file(self, found: FoundFile, after: bytes, before: bytes) -> None:
-        """Writes new content to a file, in the main thread, so one after another."""
+        """Writes new content to a file."""
         raise NotImplementedError
 
     def list_lines(self, found: FoundFile, report: Report) -> list[str]:
@@ -43,7 +47,7 @@ class Work:
         raise NotImplementedError
 
     def process_envelope(self, value: Node, place: Place, report: Report, is_prose: bool) -> bytes | None:
-        """The text that takes the place of an envelope; None if it stays."""
+        """The text that takes the place of an envelope, in a thread; None if it stays."""
         raise NotImplementedError
 
     def decrypt(self, value: Node, passwords: list[Password], may_fail: bool) -> Decryption | None:
@@ -55,31 +59,8 @@ class Work:
                 return None
             raise
 
-    def change_envelopes(
-        self, parsed: ParsedText, path: str, report: Report, outer: Place | None = None, is_prose: bool = False
-    ) -> bytes:
-        """The data of a file, or of an envelope's plaintext, with the texts that take the places of envelopes. What
-        fails stays, and is reported."""
-
-        if parsed.hides_envelope:
-            report.add_hidden(path, outer)
-
-        def process(value: Node) -> tuple[bytes | None, Report]:
-            return self._report_on(value, find_place(value, path, outer), is_prose)
-
-        envelopes = parsed.number_envelopes()
-        # Those of a plaintext are taken where it is: a thread of the pool that waits for others might wait for itself.
-        values = envelopes.values()
-        results = map(process, values) if outer else self.pool.map(process, values)
-        new: dict[int, bytes] = {}
-        for number, (text, own) in zip(envelopes, results):
-            report.add(own)
-            self.done += 1
-            if text is not None:
-                new[number] = text
-        return parsed.replace_envelopes(new) if new else parsed.data
-
-    def _report_on(self, value: Node, place: Place, is_prose: bool) -> tuple[bytes | None, Report]:
+    def attempt_envelope(self, value: Node, place: Place, is_prose: bool = False) -> Result:
+        """What takes the place of an envelope. What fails stays, and is reported."""
         report = Report()
         try:
             return self.process_envelope(value, place, report, is_prose), report
@@ -88,3 +69,25 @@ class Work:
             report.remove(ROTATED, TO_BE_ROTATED, KEPT)
             report.add_envelope(FAILED, place, str(fault))
             return None, report
+        finally:
+            self.done += 1
+
+    def change_plaintext(self, parsed: ParsedText, place: Place, report: Report) -> bytes:
+        """The plaintext of an envelope with the texts that take the places of the envelopes in it."""
+        values = parsed.number_envelopes().values()
+        results = (self.attempt_envelope(value, find_place(value, place.path, place)) for value in values)
+        return change_envelopes(parsed, results, place.path, report, outer=place)
+
+
+def change_envelopes(
+    parsed: ParsedText, results: Iterable[Result], path: str, report: Report, outer: Place | None = None
+) -> bytes:
+    """The data of a file, or of an envelope's plaintext, with what came of its envelopes, in their order."""
+    if parsed.hides_envelope:
+        report.add_hidden(path, outer)
+    new: dict[int, bytes] = {}
+    for number, (text, own) in zip(parsed.number_envelopes(), results):
+        report.add(own)
+        if text is not None:
+            new[number] = text
+    return parsed.replace_envelopes(new) if new else parsed.data

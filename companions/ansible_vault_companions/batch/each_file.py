@@ -4,13 +4,14 @@ from __future__ import annotations
 
 import os
 from collections import deque
-from concurrent.futures import Future, wait
+from concurrent.futures import Executor, Future, wait
 from contextlib import contextmanager
 from dataclasses import dataclass, field
 from typing import AbstractSet, Collection, Iterator
 
 from ansible_vault_companions import parallel, refusals
-from ansible_vault_companions.batch.each_envelope import Work
+from ansible_vault_companions.batch.each_envelope import Result, Work
+from ansible_vault_companions.batch.places import find_place
 from ansible_vault_companions.batch.report import FAILED, ROTATED, SKIPPED, TO_BE_ROTATED, Entry, Report, Total
 from ansible_vault_companions.envelopes import detection, file_kinds
 from ansible_vault_companions.envelopes.parsed_text import ParsedText, parse_envelopes
@@ -27,19 +28,16 @@ LABEL_NOT_FOUND = "no vault or value has the label {}{}"
 
 
 @dataclass
-class Outcome:
-    """What came of the work on a file."""
+class Begun:
+    """A file whose envelopes are worked on."""
 
     file: FoundFile
+    # The path that messages have: the first one or, if one of them is marked, that.
+    path: str
     report: Report = field(default_factory=Report)
-    # Its content, and what is to replace that; None if it stays.
-    before: bytes = b""
-    after: bytes | None = None
-
-    def fail(self, fault: Exception) -> None:
-        """Reports a failure. Nothing is written, so no envelope is changed."""
-        self.report.remove(ROTATED, TO_BE_ROTATED)
-        self.report.add_file(FAILED, self.file.paths[0], refusals.describe_fault(fault, self.file.target))
+    # The file, if there is more to do than to report it; and the results for its envelopes.
+    parsed: ParsedText | None = None
+    results: list[Future[Result]] = field(default_factory=list)
 
 
 class Runner:
@@ -58,47 +56,44 @@ class Runner:
         self.marked = marked
         self.total = Total()
         # The files that are worked on.
-        self.begun: deque[Future[Outcome]] = deque()
+        self.begun: deque[Begun] = deque()
 
     def process_files(self, files: list[FoundFile]) -> None:
         """Works on each file, and reports on them in order."""
         number = 0
         progress = Progress(lambda: f"file {number:,} of {len(files):,}, {self.work.done:,} values")
         with progress, parallel.open_pool() as pool:
-            # Most files have no envelope. To read one takes less time than to give it to a thread.
+            # Most files have no envelope.
             for number, found in enumerate(files, 1):
                 progress.show()
-                data = _read(found)
-                if self._has_to_be_processed(found, data):
-                    self.begun.append(pool.submit(self._try_to_process, found, data))
+                with _naming_file(found):
+                    self._begin(found, pool)
                 if len(self.begun) > AHEAD:
                     self._finish_first(progress)
             while self.begun:
                 self._finish_first(progress)
 
-    def _has_to_be_processed(self, found: FoundFile, data: bytes | Exception) -> bool:
-        """Whether a file may have to be reported."""
-        if isinstance(data, Exception) or found.refusal:
-            return True
-        return self._is_marked(found) or detection.may_have_envelope(data)
-
-    def _try_to_process(self, found: FoundFile, data: bytes | Exception) -> Outcome:
-        with _naming_file(found):
-            return self._process(found, data)
-
-    def _process(self, found: FoundFile, data: bytes | Exception) -> Outcome:
-        """Works on a file, in a thread. A failure is in its report, so other files are still processed."""
-        if isinstance(data, Exception):
-            return Outcome(found, self._report_unread(found, data))
-        parsed = parse_envelopes(data, is_prose=file_kinds.is_prose(found.target) and not self._is_marked(found))
-        if found.refusal:
-            return Outcome(found, self._report_refused(found, parsed))
-        outcome = Outcome(found, before=data)
+    def _begin(self, found: FoundFile, pool: Executor) -> None:
+        """Reads a file, and gives its envelopes to threads. One without any need not be reported."""
+        begun = Begun(found, next((path for path in found.paths if path in self.marked), found.paths[0]))
         try:
-            outcome.after = self.work.process_file(found, parsed, outcome.report)
+            data = detection.read_envelope_file(found.target)
         except (Refused, OSError) as fault:
-            outcome.fail(fault)
-        return outcome
+            begun.report = self._report_unread(found, fault)
+            self.begun.append(begun)
+            return
+        is_marked = begun.path in self.marked
+        if not (found.refusal or is_marked or detection.may_have_envelope(data)):
+            return
+        self.begun.append(begun)
+        parsed = parse_envelopes(data, is_prose=file_kinds.is_prose(found.target) and not is_marked)
+        if found.refusal:
+            begun.report = self._report_refused(found, parsed)
+            return
+        begun.parsed = parsed
+        for value in parsed.number_envelopes().values():
+            place = find_place(value, begun.path, None)
+            begun.results.append(pool.submit(self.work.attempt_envelope, value, place, parsed.is_prose))
 
     def _report_unread(self, found: FoundFile, fault: Exception) -> Report:
         """The report on a file that cannot be read."""
@@ -129,24 +124,31 @@ class Runner:
         return report
 
     def _finish_first(self, progress: Progress) -> None:
-        while wait([self.begun[0]], progress.pause).not_done:
+        begun = self.begun.popleft()
+        while wait(begun.results, progress.pause).not_done:
             progress.show()
-        self._finish(self.begun.popleft().result())
-
-    def _finish(self, outcome: Outcome) -> None:
-        """Writes a file's new content, and prints the report on it."""
-        if outcome.after is not None:
-            try:
-                self.work.write_file(outcome.file, outcome.after, outcome.before)
-            except replacing.NotSynced as fault:
-                outcome.report.add_file(FAILED, outcome.file.paths[0], str(fault))
-            except (Refused, OSError) as fault:
-                outcome.fail(fault)
+        if begun.parsed:
+            with _naming_file(begun.file):
+                self._finish(begun, begun.parsed)
         if not self.is_json:
-            for line in self.work.list_lines(outcome.file, outcome.report):
+            for line in self.work.list_lines(begun.file, begun.report):
                 write_line(line)
-        self.total.add(outcome.report)
-        self._print(outcome.report.entries)
+        self.total.add(begun.report)
+        self._print(begun.report.entries)
+
+    def _finish(self, begun: Begun, parsed: ParsedText) -> None:
+        """Writes a file's new content. A failure is reported, so other files are still processed."""
+        results = (result.result() for result in begun.results)
+        try:
+            after = self.work.finish_file(begun.file, begun.path, parsed, results, begun.report)
+            if after is not None:
+                self.work.write_file(begun.file, after, parsed.data)
+        except replacing.NotSynced as fault:
+            begun.report.add_file(FAILED, begun.path, str(fault))
+        except (Refused, OSError) as fault:
+            # Nothing is written, so no envelope is changed.
+            begun.report.remove(ROTATED, TO_BE_ROTATED)
+            begun.report.add_file(FAILED, begun.path, refusals.describe_fault(fault, begun.file.target))
 
     def _print(self, entries: list[Entry]) -> None:
         for entry in entries:
@@ -166,15 +168,6 @@ class Runner:
         report = Report([Entry(FAILED, LABEL_NOT_FOUND.format(escape(label), about), label=label) for label in missing])
         self.total.add(report)
         self._print(report.entries)
-
-
-def _read(found: FoundFile) -> bytes | Exception:
-    """The content of a file, as far as it counts, or why it cannot be read."""
-    try:
-        with _naming_file(found):
-            return detection.read_envelope_file(found.target)
-    except (Refused, OSError) as fault:
-        return fault
 
 
 @contextmanager

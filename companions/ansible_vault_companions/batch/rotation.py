@@ -9,8 +9,9 @@ from __future__ import annotations
 import os
 from contextlib import suppress
 from dataclasses import dataclass
+from typing import Iterable
 
-from ansible_vault_companions.batch.each_envelope import Work
+from ansible_vault_companions.batch.each_envelope import Result, Work, change_envelopes
 from ansible_vault_companions.batch.places import Place
 from ansible_vault_companions.batch.report import FAILED, KEPT, OTHER_LABEL, ROTATED, TO_BE_ROTATED, Report, Total
 from ansible_vault_companions.envelopes import file_kinds
@@ -39,9 +40,10 @@ class Rotation(Work):
     new_for_any: Password | None
     is_dry: bool
 
-    def process_file(self, found: FoundFile, parsed: ParsedText, report: Report) -> bytes | None:
-        path = found.paths[0]
-        after = self.change_envelopes(parsed, path, report, is_prose=parsed.is_prose)
+    def finish_file(
+        self, found: FoundFile, path: str, parsed: ParsedText, results: Iterable[Result], report: Report
+    ) -> bytes | None:
+        after = change_envelopes(parsed, results, path, report)
         fault = file_kinds.find_fault(parsed, found.names)
         # In what is no YAML, all that has digits was found.
         if fault and not parsed.values:
@@ -118,7 +120,7 @@ class Rotation(Work):
         parsed = parse_envelopes(plaintext)
         if parsed.is_vault:
             raise Refused("its plaintext is itself a vault, which ansible-vault does not encrypt; decrypt it first")
-        return self.change_envelopes(parsed, place.path, report, outer=place)
+        return self.change_plaintext(parsed, place, report)
 
 
 def list_summary(total: Total, is_dry: bool, new_files: list[str]) -> list[str]:
