@@ -64,11 +64,10 @@ class YamlText:
     def _show(self, parsed: ParsedText) -> ParsedText:
         """The text with blocks where they can be, or else, if a comment below one would be part of it, without any."""
         texts = {old.value: old.text for old in self.opened}
-        quotes = [put_in_quotes(old.value, old.text.decode()) for old in self.opened]
         try:
             return rewrite(parsed, [change for old in self.opened for change in _make_block(self.data, old)], texts)
         except Refused:
-            return rewrite(parsed, quotes, texts)
+            return rewrite(parsed, [put_in_quotes(old.value, old.text.decode()) for old in self.opened], texts)
 
 
 class YamlDraft:

@@ -15,10 +15,6 @@ class Pointer(Refused):
         super().__init__("it is a pointer of git-lfs, which says nothing about the file; `git lfs pull` gets the file")
 
 
-def is_pointer(data: bytes) -> bool:
-    return data.startswith(POINTER_START)
-
-
 def refuse_pointer(data: bytes) -> None:
-    if is_pointer(data):
+    if data.startswith(POINTER_START):
         raise Pointer

@@ -63,7 +63,7 @@ def require_pyyaml() -> Any:
 
 def read_envelopes(data: bytes) -> Iterator[Node]:
     """The values among the scalars: those that have the tag or an envelope. Raises NotYaml."""
-    return _read_wanted(data, lambda steps, event: _is_value(steps, event))
+    return _read_wanted(data, _is_value)
 
 
 def read_nodes(data: bytes) -> Iterator[Node]:
