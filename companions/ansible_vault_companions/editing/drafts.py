@@ -126,14 +126,13 @@ class Loader:
         return self._load_values(target, content)
 
     def _load_conflict(self, target: str, content: bytes, versions: Versions) -> Draft:
-        are_vaults = [side.startswith(MAGIC) for side in (versions.ours, versions.theirs)]
-        if all(are_vaults):
+        if all(versions.are_vaults):
             vaults = VaultMerge(self.decrypt, versions)
             chosen = self.chosen.find_key() if self.chosen.label is not None else None
             key = vaults.choose_key(chosen)
             key.password.confirm()
             return ConflictDraft(target, content, vaults, key)
-        if any(are_vaults):
+        if any(versions.are_vaults):
             raise Refused(ONE_SIDE.format(make_pathspec(target)))
         ours, theirs = YamlText(versions.ours, self.decrypt), YamlText(versions.theirs, self.decrypt)
         text = join_lines(Versions(ours.shown.data, self._show_base(versions.base), theirs.shown.data))

@@ -40,10 +40,9 @@ def merge_file(tool: Tool, decrypt: Decrypt, versions: Versions, chosen: Key | N
     try:
         for text in versions:
             refuse_pointer(text)
-        are_vaults = [text.startswith(MAGIC) for text in (ours, theirs)]
-        if all(are_vaults):
+        if all(versions.are_vaults):
             return MergedFile(_merge_vaults(tool, decrypt, versions, chosen))
-        if any(are_vaults):
+        if any(versions.are_vaults):
             raise OneSideOnly(KINDS_DIFFER)
         return _merge_values(tool, decrypt, versions, chosen)
     except Refused as fault:

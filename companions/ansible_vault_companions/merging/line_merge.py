@@ -6,6 +6,7 @@ import os
 from typing import NamedTuple
 
 from ansible_vault_companions.envelopes.conflicts import END_MARKER, join_sides
+from ansible_vault_companions.envelopes.header import MAGIC
 from ansible_vault_companions.git import commands
 from ansible_vault_companions.refusals import Refused
 
@@ -31,6 +32,11 @@ class Versions(NamedTuple):
     ours: bytes
     base: bytes
     theirs: bytes
+
+    @property
+    def are_vaults(self) -> list[bool]:
+        """Whether ours is a vault, and whether theirs is one."""
+        return [side.startswith(MAGIC) for side in (self.ours, self.theirs)]
 
 
 class MergedLines(NamedTuple):

@@ -4,7 +4,6 @@ from __future__ import annotations
 
 from collections.abc import Callable
 
-from ansible_vault_companions.envelopes.header import MAGIC
 from ansible_vault_companions.merging.line_merge import Versions, join_lines
 from ansible_vault_companions.merging.unmerged_file import find_versions
 from ansible_vault_companions.merging.vault_merge import VaultMerge
@@ -22,10 +21,9 @@ def show_conflict(
         sides = find_versions(target, data)
         if not sides:
             return None
-        are_vaults = [side.startswith(MAGIC) for side in (sides.ours, sides.theirs)]
-        if not any(are_vaults):
+        if not any(sides.are_vaults):
             return _join_sides(sides, show)
-        return _merge_vaults(sides, decrypt) if all(are_vaults) else None
+        return _merge_vaults(sides, decrypt) if all(sides.are_vaults) else None
     except Refused:
         return None
 
