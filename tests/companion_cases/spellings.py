@@ -297,20 +297,20 @@ def check_places(data: bytes, parse: Callable[[bytes], ParsedText]) -> None:
         assert 0 <= value.begin <= value.start <= value.end <= len(data) or value.style == STRAY, (value, data)
 
 
-def replace_some(random: Random, parsed: ParsedText) -> dict[int, bytes]:
-    """Choose the envelopes to replace, by their numbers."""
-    return {number: NEW for number in range(len(parsed.values)) if random.random() < 0.5}
+def replace_some(random: Random, parsed: ParsedText) -> dict[Node, bytes]:
+    """Choose the envelopes to replace."""
+    return {value: NEW for value in parsed.values if random.random() < 0.5}
 
 
-def check_replaced(data: bytes, parsed: ParsedText, new: dict[int, bytes]) -> None:
+def check_replaced(data: bytes, parsed: ParsedText, new: dict[Node, bytes]) -> None:
     """Check that new envelopes are where the old ones were, and that all around them stays."""
     after = parsed.replace_envelopes(new)
     assert around(after) == around(data), (data, after)
     assert {*LINE_END.findall(after)} <= {*LINE_END.findall(data)}, (data, after)
     wanted = []
-    for number, value in enumerate(parsed.values):
+    for value in parsed.values:
         if value.style not in (STRAY, LOOSE):
-            wanted.append(text_at(value.path, new.get(number, value.text).decode()))
+            wanted.append(text_at(value.path, new.get(value, value.text).decode()))
     assert list_composed(after) == wanted, (data, after)
 
 

@@ -74,8 +74,7 @@ class Work:
 
     def change_plaintext(self, parsed: ParsedText, place: Place, report: Report) -> bytes:
         """The plaintext of an envelope with the texts that take the places of the envelopes in it."""
-        values = parsed.number_envelopes().values()
-        results = (self.attempt_envelope(value, find_place(value, place.path, place)) for value in values)
+        results = (self.attempt_envelope(value, find_place(value, place.path, place)) for value in parsed.envelopes)
         return change_envelopes(parsed, results, place.path, report, outer=place)
 
 
@@ -85,9 +84,9 @@ def change_envelopes(
     """The data of a file, or of an envelope's plaintext, with what came of its envelopes, in their order."""
     if parsed.hides_envelope:
         report.add_hidden(path, outer)
-    new: dict[int, bytes] = {}
-    for number, (text, own) in zip(parsed.number_envelopes(), results):
+    new: dict[Node, bytes] = {}
+    for value, (text, own) in zip(parsed.envelopes, results):
         report.add(own)
         if text is not None:
-            new[number] = text
+            new[value] = text
     return parsed.replace_envelopes(new) if new else parsed.data

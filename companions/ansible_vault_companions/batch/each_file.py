@@ -91,7 +91,7 @@ class Runner:
             begun.report = self._report_refused(found, parsed)
             return
         begun.parsed = parsed
-        for value in parsed.number_envelopes().values():
+        for value in parsed.envelopes:
             place = find_place(value, begun.path, None)
             begun.results.append(pool.submit(self.work.attempt_envelope, value, place, parsed.is_prose))
 
@@ -118,7 +118,7 @@ class Runner:
     def _report_refused(self, found: FoundFile, parsed: ParsedText) -> Report:
         """The report on a link that leads out: a failure if there is something to do in its file."""
         path = found.paths[0]
-        fails = self._is_marked(found) or parsed.number_envelopes() or file_kinds.find_fault(parsed, found.names)
+        fails = self._is_marked(found) or parsed.envelopes or file_kinds.find_fault(parsed, found.names)
         report = Report()
         report.add_file(FAILED if fails else SKIPPED, path, found.refusal)
         return report

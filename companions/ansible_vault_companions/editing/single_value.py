@@ -7,7 +7,6 @@ import os
 import re
 
 from ansible_vault_companions.editing.encrypting_password import Choice, keep_key
-from ansible_vault_companions.editing.yaml_draft import rewrite
 from ansible_vault_companions.envelopes import conflicts
 from ansible_vault_companions.envelopes.header import MAGIC
 from ansible_vault_companions.envelopes.key_paths import KeyPath, parse_path, quote_key
@@ -19,6 +18,7 @@ from ansible_vault_companions.envelopes.parsed_text import (
     ParsedText,
     parse_nodes,
     require_nodes,
+    rewrite,
 )
 from ansible_vault_companions.envelopes.pointers import refuse_pointer
 from ansible_vault_companions.files import reading, replacing

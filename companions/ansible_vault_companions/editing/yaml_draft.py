@@ -5,7 +5,7 @@ What is saved is read once. Values are found again by their keys, and all else i
 
 from __future__ import annotations
 
-from collections.abc import Iterable, Iterator
+from collections.abc import Iterator
 from typing import NamedTuple
 
 from ansible_vault_companions.editing.encrypting_password import Choice
@@ -16,7 +16,6 @@ from ansible_vault_companions.envelopes.header import MAGIC
 from ansible_vault_companions.envelopes.layout import (
     NOT_UTF_8,
     Replacement,
-    apply_replacements,
     drop_blanks,
     find_column,
     find_line_end,
@@ -25,7 +24,7 @@ from ansible_vault_companions.envelopes.layout import (
     put_plaintext,
 )
 from ansible_vault_companions.envelopes.node import ALIAS, FOLDED, LITERAL, NO_SCALAR, PLAIN, Node
-from ansible_vault_companions.envelopes.parsed_text import ParsedText, parse_nodes, require_nodes
+from ansible_vault_companions.envelopes.parsed_text import ParsedText, require_nodes, rewrite
 from ansible_vault_companions.parallel import work_at_once
 from ansible_vault_companions.quoting import escape
 from ansible_vault_companions.refusals import Refused
@@ -34,7 +33,6 @@ from ansible_vault_companions.tool import Decrypt, Key, Tool
 NOT_A_STRING = "is a list, a mapping or a key, not a string; put quotes around a text"
 NOTHING_TYPED = 'is missing after `!vault`; write `""` for an empty one'
 LIKE_A_VAULT = "begins like a vault ($ANSIBLE_VAULT), but is not one, so ansible-vault does not encrypt it"
-NOT_WRITABLE = "its values cannot be written where they are; write each as `NAME: !vault |`"
 # What is said of a saved text.
 ENCRYPTED = "encrypted {} (label {})"
 IN_PLAINTEXT = "{} is now plaintext"
@@ -133,15 +131,6 @@ def _describe_encrypted(typed: list[Node], matches: list[Match]) -> Iterator[str
     for value, match in zip(typed, matches):
         if match.key:
             yield ENCRYPTED.format(escape(value.typed_path), escape(match.key.label))
-
-
-def rewrite(parsed: ParsedText, changes: Iterable[Replacement], texts: dict[Node, bytes]) -> ParsedText:
-    """The text with these changes. It is read again: these nodes have the new texts, and all others stay."""
-    after = parse_nodes(apply_replacements(parsed.data, changes))
-    wanted = [(value.path, texts.get(value, value.text)) for value in parsed.values]
-    if after.fault or [(value.path, value.text) for value in after.values] != wanted:
-        raise Refused(NOT_WRITABLE)
-    return after
 
 
 def _try_to_open(data: bytes, value: Node, decrypt: Decrypt) -> DecryptedValue | Refused | None:

@@ -11,18 +11,19 @@ joined: it has only strays.
 from __future__ import annotations
 
 from collections.abc import Callable, Iterable, Iterator
+from functools import partial
 
 from ansible_vault_companions.envelopes.detection import may_have_envelope
 from ansible_vault_companions.envelopes.header import MAGIC
 from ansible_vault_companions.envelopes.key_paths import leads_to, parse_path
-from ansible_vault_companions.envelopes.layout import apply_replacements, replace_envelope
+from ansible_vault_companions.envelopes.layout import Replacement, apply_replacements, replace_envelope
 from ansible_vault_companions.envelopes.node import WHOLE, WITH_DIGITS, Node
 from ansible_vault_companions.envelopes.strays import find_strays
 from ansible_vault_companions.envelopes.yaml_nodes import BINARY, NotYaml, read_envelopes, read_nodes
 from ansible_vault_companions.quoting import escape
 from ansible_vault_companions.refusals import Refused
 
-NOT_REPLACEABLE = "its values cannot be replaced where they are; write each as `NAME: !vault |`"
+NOT_WRITABLE = "its values cannot be written where they are; write each as `NAME: !vault |`"
 
 # How many values a message lists if a typed path leads nowhere.
 MOST_LISTED = 20
@@ -51,20 +52,17 @@ class ParsedText:
         """Whether a null character keeps an envelope that is mentioned elsewhere from being found."""
         return not self.is_vault and BINARY in self.data and WITH_DIGITS.search(self.data) is not None
 
-    def number_envelopes(self) -> dict[int, Node]:
-        """The envelopes by their numbers. A value that only has the tag is none."""
-        return {number: value for number, value in enumerate(self.values) if value.is_envelope}
+    @property
+    def envelopes(self) -> list[Node]:
+        """The envelopes. A value that only has the tag is none."""
+        return [value for value in self.values if value.is_envelope]
 
-    def replace_envelopes(self, new: dict[int, bytes]) -> bytes:
-        """The data with new envelopes, by the numbers of their values. It is read again: only these may differ."""
-        replacements = [replace_envelope(self.values[number], text) for number, text in new.items()]
-        after = apply_replacements(self.data, replacements)
-        if not self.is_vault:
-            wanted = [(value.path, new.get(number, value.text).strip()) for number, value in enumerate(self.values)]
-            parsed = parse_envelopes(after, is_prose=self.is_prose)
-            if [(value.path, value.text.strip()) for value in parsed.values] != wanted:
-                raise Refused(NOT_REPLACEABLE)
-        return after
+    def replace_envelopes(self, new: dict[Node, bytes]) -> bytes:
+        """The data with new envelopes in place of these."""
+        changes = [replace_envelope(value, text) for value, text in new.items()]
+        if self.is_vault:
+            return apply_replacements(self.data, changes)
+        return rewrite(self, changes, new, partial(parse_envelopes, is_prose=self.is_prose)).data
 
     def list_values_at(self, path: str) -> list[Node]:
         """The values at a typed path that are encrypted or have the tag, else all nodes there. A list item may also be
@@ -77,7 +75,7 @@ class ParsedText:
         """The only one of the values at a typed path."""
         values = self.list_values_at(path)
         if not values:
-            envelopes = self.number_envelopes().values()
+            envelopes = self.envelopes
             names = [escape(value.typed_path) for value in envelopes] if len(envelopes) <= MOST_LISTED else []
             listed = f"; encrypted here: {', '.join(names)}" if names else ""
             raise Refused(f"there is no value {escape(path)}{listed}")
@@ -112,6 +110,20 @@ def require_nodes(data: bytes) -> ParsedText:
     if parsed.fault:
         raise Refused(parsed.fault)
     return parsed
+
+
+def rewrite(
+    before: ParsedText,
+    changes: Iterable[Replacement],
+    texts: dict[Node, bytes],
+    parse: Callable[[bytes], ParsedText] = parse_nodes,
+) -> ParsedText:
+    """A text with these changes. It is read again: these nodes have the new texts, and all others stay."""
+    after = parse(apply_replacements(before.data, changes))
+    wanted = [(value.path, texts.get(value, value.text)) for value in before.values]
+    if [(value.path, value.text) for value in after.values] != wanted:
+        raise Refused(NOT_WRITABLE)
+    return after
 
 
 def _read_yaml(data: bytes, read: Callable[[bytes], Iterator[Node]]) -> ParsedText:

@@ -2,6 +2,8 @@
 
 from __future__ import annotations
 
+from functools import partial
+
 from ansible_vault_companions.envelopes import conflicts, detection
 from ansible_vault_companions.envelopes.header import MAGIC
 from ansible_vault_companions.envelopes.layout import Replacement, apply_replacements, put_plaintext
@@ -48,7 +50,7 @@ def _choose_first_line(parsed: ParsedText) -> bytes:
     if parsed.is_vault:
         # One that can be decrypted is shown elsewhere.
         return first_line.AS_IT_IS
-    count = sum(map(_is_encrypted, parsed.number_envelopes().values()))
+    count = sum(map(_is_encrypted, parsed.envelopes))
     return first_line.describe_values(count) if count else first_line.NOTHING
 
 
@@ -58,10 +60,10 @@ def _is_encrypted(value: Node) -> bool:
 
 
 def _show_values(companion: str, parsed: ParsedText, path: str, decrypt: Decrypt) -> bytes:
-    values = [*parsed.number_envelopes().values()]
-    results = work_at_once(lambda value: _try_to_show(parsed.data, value, decrypt), values, shows_progress=False)
+    work = partial(_try_to_show, parsed.data, decrypt)
+    results = work_at_once(work, parsed.envelopes, shows_progress=False)
     changes: list[Replacement] = []
-    for result, value in zip(results, values):
+    for result, value in zip(results, parsed.envelopes):
         if isinstance(result, Refused):
             write_error(f"{companion}: {value.describe_place(path)}: shown as it is: {result}")
         else:
@@ -69,7 +71,7 @@ def _show_values(companion: str, parsed: ParsedText, path: str, decrypt: Decrypt
     return apply_replacements(parsed.data, changes)
 
 
-def _try_to_show(data: bytes, value: Node, decrypt: Decrypt) -> list[Replacement] | Refused:
+def _try_to_show(data: bytes, decrypt: Decrypt, value: Node) -> list[Replacement] | Refused:
     """The changes that show a value, or why it stays encrypted."""
     try:
         return put_plaintext(data, value, decrypt(value.require_readable()).text)
