@@ -59,10 +59,15 @@ def test_vaults(place: Place, style: str, end: bytes) -> None:
     assert place.get("a.yml") == vaults[1], "the vault of a side is kept"
 
 
-def test_long_markers(place: Place) -> None:
-    """An edit refuses a conflict whose markers have another size, which an attribute may give them."""
+LONG = b"%s ours\n%s%s\n%s%s theirs\n" % (b"<" * 15, block("old"), b"=" * 15, block("new"), b">" * 15)
+HALF = sealed("old").replace(b"\n", b"\n<<<<<<< ours\n", 1)
+
+
+@pytest.mark.parametrize("before", (LONG, HALF), ids=("long markers", "half a conflict in a vault"))
+def test_no_whole_conflict(place: Place, before: bytes) -> None:
+    """An edit refuses a conflict whose markers have another size, which an attribute may give them, or are not all
+    there."""
     needs_pyyaml()
-    before = b"%s ours\n%s%s\n%s%s theirs\n" % (b"<" * 15, block("old"), b"=" * 15, block("new"), b">" * 15)
     place.put("a.yml", before)
     why = "no whole conflict between markers of seven characters; take a side with `git checkout`"
     ended("edit", edit(place, "touch ../started", *place.by_file("old"), "a.yml"), 1, why)

@@ -74,19 +74,17 @@ class Rotation(Work):
         new = self.new.get(label)
         if new:
             report.labels.add(label)
-        result = self._decrypt_own(value, new, is_prose) if new else self._decrypt_other(value, is_prose)
-        if result and not new:
-            new = self.new_for_any
+            # Those with its label are tried first, so most need a single try.
+            result = self.decrypt(value, [*self.old, new], may_fail=is_prose)
+        else:
+            result = self._decrypt_other(value, is_prose)
+            new = self.new_for_any if result else None
         if not new:
             report.add_envelope(OTHER_LABEL, place)
         if not result:
             report.labels.clear()
             return None
         return self._encrypt_again(result, new, place, report)
-
-    def _decrypt_own(self, value: Node, new: Password, is_prose: bool) -> Decryption | None:
-        """What has the label of a new password. Those with its label are tried first, so most need a single try."""
-        return self.decrypt(value, [*self.old, new], may_fail=is_prose)
 
     def _decrypt_other(self, value: Node, is_prose: bool) -> Decryption | None:
         """What has another label. It stays if no old password decrypts it. If only what is in its plaintext may change,

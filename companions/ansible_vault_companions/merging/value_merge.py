@@ -160,7 +160,7 @@ class ValueMerge:
 
 
 def _list_values(parsed: ParsedText) -> list[Node]:
-    return [value for value in parsed.values if value.is_envelope and value.style != LOOSE]
+    return [value for value in parsed.envelopes if value.style != LOOSE]
 
 
 def _try_to_decrypt(decrypt: Decrypt, text: bytes) -> Decryption | None:
