@@ -150,7 +150,10 @@ def test_other_passwords(place: Place) -> None:
     assert decrypted("prod", place.get("a.yml")) == b"theirs\n"
 
 
-@pytest.mark.parametrize("command", ("true", "git add a.yml", "cp ../whole a.yml"))
+WITHOUT_BASE = ["git add a.yml", "git add a.yml; git config merge.conflictStyle diff3", "cp ../whole a.yml"]
+
+
+@pytest.mark.parametrize("command", ("true", *WITHOUT_BASE))
 def test_values(place: Place, command: str) -> None:
     """Both texts of a value are shown, even if git's markers are between its digits, or the index has no base. The one
     that is taken keeps its envelope, and a new text its password."""
