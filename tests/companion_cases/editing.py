@@ -153,6 +153,16 @@ def test_commands(place: Place, command: str) -> None:
     assert decrypted("old", place.get("all.yml")) == CHANGED, "what was saved"
 
 
+@pytest.mark.parametrize("name", [name for name in AWKWARD if not name.startswith("-")])
+def test_command_that_reads_the_path_again(place: Place, name: str) -> None:
+    """Whoever named the file runs nothing with an editor that begins with `eval`."""
+    place.put(name, sealed("old"))
+    script = place.script(CHANGE, "editor")
+    silent("the edit", place.run(EDIT, *place.by_file("old"), name, EDITOR=f"eval {script}"))
+    assert decrypted("old", place.get(name)) == CHANGED, "what was saved"
+    assert (place.names(), place.left()) == ([name], []), "nothing else was done"
+
+
 def test_empty_text(place: Place) -> None:
     """An editor may save nothing at all, and then the vault and the value have an empty text."""
     place.put("all.yml", sealed("old", label="prod"))

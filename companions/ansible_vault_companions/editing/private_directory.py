@@ -4,6 +4,7 @@ from __future__ import annotations
 
 import errno
 import os
+import re
 import stat
 import tempfile
 from contextlib import suppress
@@ -16,6 +17,8 @@ from ansible_vault_companions.quoting import escape
 from ansible_vault_companions.refusals import Refused
 
 FOLDER_PREFIX = "ansible-vault-"
+# An editor's command may be one that reads the path once more, such as `eval`. A stranger may have named the file.
+READ_BY_SHELLS = re.compile(r"[^\w.,@%+-]")
 NO_PRIVATE_FOLDER = (
     "no private directory can be made for the plaintext ({}); set TMPDIR to a directory that only you can open"
 )
@@ -49,8 +52,9 @@ class PrivateDirectory:
         # The texts that are elsewhere; and what came of the edit.
         self.texts = {text, b""}
         self.outcome = ""
-        self.path = _make(os.path.basename(path), text)
-        self.file = os.path.join(self.path, os.path.basename(path))
+        name = READ_BY_SHELLS.sub("_", os.path.basename(path))
+        self.path = _make(name, text)
+        self.file = os.path.join(self.path, name)
 
     def release(self, text: bytes | None, outcome: str) -> None:
         """What was saved is elsewhere, or nothing was. The outcome is what a message says."""
