@@ -120,15 +120,16 @@ OF_VAULT = b"x: 1\n" + block("old", OF_VALUE, name="b")
 
 
 def test_places_within(place: Place) -> None:
-    """Each place names that of the vault or value around it, however deep it is."""
+    """Each place names that of the vault or value around it, however deep it is. The names of keys in a plaintext are as
+    secret as the rest of it."""
     place.put("a.yml", sealed("old", OF_VAULT))
-    of_b = {"line": 3, "key_path": "b", "within": NOWHERE}
-    of_c = {"line": 3, "key_path": "c", "within": of_b}
+    of_b = {"line": 3, "key_path": None, "within": NOWHERE}
+    of_c = {"line": 3, "key_path": None, "within": of_b}
     for words in ([CHECK, *place.by_file("old")], [ROTATE, *to_new(place), "--dry-run"]):
         found = read(place.run(*words, "--json", "a.yml"))
         places = [{field: each[field] for field in NOWHERE} for each in found]
         assert sorted(places, key=str) == sorted([NOWHERE, of_b, of_c], key=str), words[0]
-    told = "a.yml: default: in its plaintext, line 3: b: default: in its plaintext, line 3: c: default: decrypted by"
+    told = "a.yml: default: in its plaintext, line 3: default: in its plaintext, line 3: default: decrypted by"
     ended("the text", place.run(CHECK, *place.by_file("old"), "a.yml"), 0, told)
 
 

@@ -31,7 +31,7 @@ def place_within(name: str) -> str:
 
 # Why the last block fails.
 STRAY = f"{place_within('stray')}no secret decrypts this vault (label prod; "
-STRAY_CHECKED = f"{place_within('stray')}stray: prod: no secret decrypts this vault (label prod; "
+STRAY_CHECKED = f"{place_within('stray')}prod: no secret decrypts this vault (label prod; "
 
 
 def by_label(place: Place) -> list[str]:
@@ -44,8 +44,8 @@ def test_check_within_a_vault(place: Place) -> None:
     done = place.run(CHECK, *by_label(place), "all.yml")
     for wanted in (
         f"decrypted by prod@{place.secret('prod')}\n",
-        f"{place_within('a')}a: prod: decrypted by prod@{place.secret('prod')}\n",
-        f"{place_within('b')}b: dev: decrypted by dev@{place.secret('dev')}\n",
+        f"{place_within('a')}prod: decrypted by prod@{place.secret('prod')}\n",
+        f"{place_within('b')}dev: decrypted by dev@{place.secret('dev')}\n",
         STRAY_CHECKED,
     ):
         ended("the check", done, 1, f"all.yml: prod: {wanted}")

@@ -44,7 +44,8 @@ NOT_SHOWN = [
     ),
     # As if a variable of the shell were empty.
     NotShown(content=FILE, path="", why="there is no value ; encrypted here: db_password, "),
-    NotShown(content=VAULT, path="", why="there is no value ; encrypted here: x\n"),
+    # The names in a plaintext are as secret as the rest of it.
+    NotShown(content=VAULT, path="", why="there is no value \n"),
     NotShown(content=FILE, path="app.plain", why="app.plain is not encrypted"),
     NotShown(
         content=block("dev", b"one", "dev", "a") * 2,

@@ -12,7 +12,8 @@ class Place(NamedTuple):
     path: str
     # The envelope that has it in its plaintext.
     outer: Optional[Place]
-    # Its line, 0 if it is the whole of a file or of a plaintext; the keys that lead to it, and its own one.
+    # Its line, 0 if it is the whole of a file or of a plaintext; the keys that lead to it, and its own one. The keys of
+    # a plaintext are secret, so these are empty there.
     line: int
     key_path: str
     name: str
@@ -34,4 +35,5 @@ class Place(NamedTuple):
 
 
 def find_place(value: Node, path: str, outer: Place | None) -> Place:
-    return Place(path, outer, value.line, value.typed_path, value.name, value.label)
+    key_path, name = ("", "") if outer else (value.typed_path, value.name)
+    return Place(path, outer, value.line, key_path, name, value.label)

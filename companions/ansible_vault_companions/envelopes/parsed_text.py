@@ -71,12 +71,12 @@ class ParsedText:
         values = [value for value in self.values if leads_to(steps, value.path)]
         return [value for value in values if value.is_value] or values
 
-    def find_value_at(self, path: str) -> Node:
-        """The only one of the values at a typed path."""
+    def find_value_at(self, path: str, names_others: bool = True) -> Node:
+        """The only one of the values at a typed path. A refusal names the others, unless that is forbidden."""
         values = self.list_values_at(path)
         if not values:
-            envelopes = self.envelopes
-            names = [escape(value.typed_path) for value in envelopes] if len(envelopes) <= MOST_LISTED else []
+            is_listed = names_others and len(self.envelopes) <= MOST_LISTED
+            names = [escape(value.typed_path) for value in self.envelopes] if is_listed else []
             listed = f"; encrypted here: {', '.join(names)}" if names else ""
             raise Refused(f"there is no value {escape(path)}{listed}")
         if len(values) > 1:

@@ -83,7 +83,8 @@ def show_value(data: bytes, path: str, decrypt: Decrypt) -> bytes:
     """The plaintext of a value in YAML, or in the plaintext of a vault."""
     refuse_pointer(data)
     is_vault = data.startswith(MAGIC)
-    value = require_nodes(decrypt(data).text if is_vault else data).find_value_at(path)
+    # The names in a vault's plaintext are secret.
+    value = require_nodes(decrypt(data).text if is_vault else data).find_value_at(path, names_others=not is_vault)
     if value.is_envelope:
         return decrypt(value.require_readable()).text
     if not is_vault:
