@@ -1,4 +1,4 @@
-"""Links that lead out of a repository, or out of what was named: no companion shows or writes their files.
+"""Links that lead out of a repository, and other users' links: what is replaced is not where they lead.
 
 The links are in a directory `project`, which is a repository or not. Each companion gets each kind of link, and
 `expected` says what happens, by the rule in the manual page of ansible-vault-with.
@@ -90,26 +90,23 @@ COMMANDS = {
     "rotate": Command([ROTATE, "{old}", "{new}"], VAULT, writes=True),
     "a dry run": Command([ROTATE, "{old}", "{new}", "--dry-run"], VAULT, writes=False, status=1),
 }
-# Those whose file the program itself opens.
+# Those whose file the program itself opens, and those that show a typed file wherever it is.
 BY_PROGRAM = ("view", "decrypt to a stream")
+SHOWING = (*BY_PROGRAM, "several views", "textconv", "textconv of a value")
 # What a companion that writes nothing prints of a file that it may read.
 SHOWN = {"check": "decrypted by", "a dry run": "would be rotated"}
 
 
 def expected(kind: Kind, is_repository: bool, tree: Path) -> str:
-    """Return the reason to refuse the path; empty if it may be followed.
+    """Return the reason not to replace the file; empty if it may be replaced.
 
-    A link in a repository has to lead into it, and not to git's own files. Outside of git, the directories of a typed
-    path are the user's, and the file may be a link within its directory.
+    A link in a repository has to lead into it, and not to git's own files. Any other link is the user's.
     """
     if not kind.file:
         return LOOP
-    if not is_repository and not kind.path.endswith("/l.yml"):
-        return ""
-    bound = "project" if is_repository else "project/vars"
-    leads_out = not kind.file.startswith(f"{bound}/") or "/.git/" in kind.file
+    leads_out = not kind.file.startswith("project/") or "/.git/" in kind.file
     target = kind.file if kind.file.startswith("/") else f"{tree}/{kind.file}"
-    return f"a link leads out of {tree}/{bound}; name {target}" if leads_out else ""
+    return f"a link leads out of {tree}/project; name {target}" if leads_out and is_repository else ""
 
 
 def prepare(place: Place, kind: Kind, content: bytes) -> None:
@@ -174,7 +171,7 @@ def check_followed(command: str, outcome: Outcome, file: str, message: str = "")
 @pytest.mark.parametrize("is_repository", (True, False))
 @pytest.mark.parametrize("name", KINDS)
 def test_each_link(place: Place, name: str, is_repository: bool, subtests: SubTests) -> None:
-    """A path that may be followed leads to its file. Any other is refused, and nothing changes."""
+    """A path that may be followed leads to its file, and to show it, any may. Otherwise, nothing changes."""
     kind = KINDS[name]
     place.shell("git init -q project" if is_repository else "mkdir project")
     why = expected(kind, is_repository, place.tree)
@@ -182,37 +179,74 @@ def test_each_link(place: Place, name: str, is_repository: bool, subtests: SubTe
         prepare(place, kind, COMMANDS[command].content)
         outcome = try_command(place, command, kind.path)
         with subtests.test(command):
-            if why:
+            if why and (command not in SHOWING or why == LOOP):
                 check_refused(command, outcome, f": {kind.path}: {why}", COMMANDS[command].status or 1)
-            elif kind.file not in FILES and command != "edit":
+            elif kind.file not in FILES and (command != "edit" or "/new.yml" not in kind.file):
                 check_refused(command, outcome, f": {kind.path}: {MISSING}", 3 if command in BY_PROGRAM else 1)
+            elif "/.git/" in kind.file:
+                check_refused(command, outcome, f": {kind.path}: there is no directory ", 1)
             else:
                 made = f"{EDIT}: {kind.path}: encrypted the new vault (label default)\n"
                 check_followed(command, outcome, kind.file, message="" if kind.file in FILES else made)
 
 
-@pytest.mark.parametrize("owner", (NOBODY, 0))
-@pytest.mark.parametrize("name", KINDS)
-def test_repository_above(place: Place, name: str, owner: int, subtests: SubTests) -> None:
-    """A `.git` that another user has put above the project allows no link that is refused without it. One of root's
-    counts."""
+class Owners(NamedTuple):
+    """Who owns a link, a `.git` above it, and the file to which it leads; and whether the link is followed."""
+
+    link: int
+    git: int
+    file: int
+    is_followed: bool
+
+
+OWNERS = {
+    "another user's link to root's file": Owners(link=NOBODY, git=0, file=0, is_followed=False),
+    "in that user's repository": Owners(link=NOBODY, git=NOBODY, file=0, is_followed=False),
+    "to a third user's file": Owners(link=NOBODY, git=0, file=NOBODY - 1, is_followed=False),
+    "root in a user's checkout": Owners(link=NOBODY, git=NOBODY, file=NOBODY, is_followed=True),
+    "root's link to a user's file": Owners(link=0, git=NOBODY, file=NOBODY, is_followed=True),
+    "root's own": Owners(link=0, git=0, file=0, is_followed=True),
+}
+
+
+@pytest.mark.parametrize("path", ("project/l.yml", "project/l/b.yml"))
+@pytest.mark.parametrize("has_git", (True, False), ids=("git", "no git"))
+@pytest.mark.parametrize("owners", OWNERS.values(), ids=OWNERS)
+def test_owners(place: Place, owners: Owners, has_git: bool, path: str, subtests: SubTests) -> None:
+    """A link counts if the user or root owns it, or the owner of what it leads to, be it the file or a directory."""
     needs_root()
-    kind = KINDS[name]
-    place.shell("mkdir project .git")
-    os.chown(place.tree / ".git", owner, 0)
-    why = expected(kind, False, place.tree) if owner or not kind.file else ""
+    kind = Kind({"l.yml": "vars/b.yml", "l": "vars"}, path, "project/vars/b.yml")
+    place.shell("mkdir project" + "; mkdir .git" * has_git)
     for command in COMMANDS:
-        # git itself refuses this repository.
+        # git itself refuses another user's repository.
         if command == "check":
             continue
         prepare(place, kind, COMMANDS[command].content)
-        outcome = try_command(place, command, kind.path)
+        os.chown(place.tree / "project/vars/b.yml", owners.file, -1)
+        for link in kind.links:
+            os.chown(place.tree / "project" / link, owners.link, -1, follow_symlinks=False)
+        if has_git:
+            os.chown(place.tree / ".git", owners.git, -1)
+        outcome = try_command(place, command, f"../{path}")
         with subtests.test(command):
-            if why:
-                assert f": {kind.path}: {why}" in outcome.message, "it is refused"
-                assert outcome.changed == [], "no file changes"
-            elif name not in ("a descriptor", "git's own files"):
-                assert "a link leads out" not in outcome.message
+            link = f"{place.tree}/{os.path.dirname(path) if path.endswith('/b.yml') else path}"
+            why = f": ../{path}: {link} is another user's link; name {place.tree}/project/vars/b.yml instead\n"
+            if owners.is_followed:
+                check_followed(command, outcome, kind.file)
+            else:
+                check_refused(command, outcome, why, COMMANDS[command].status or 1)
+
+
+def test_new_file(place: Place) -> None:
+    """Through another user's link, root makes no file in a directory of root's."""
+    needs_root()
+    place.shell("mkdir mine; ln -s mine theirs")
+    os.chown(place.tree / "theirs", NOBODY, -1, follow_symlinks=False)
+    done = place.run(WITH, "create", *place.by_file("old"), "theirs/new.yml", EDITOR="true")
+    why = (
+        f"{WITH}: theirs/new.yml: {place.tree}/theirs is another user's link; name {place.tree}/mine/new.yml instead\n"
+    )
+    check_answer("it", done, 1, errors=why)
 
 
 @pytest.mark.usefixtures("git")
@@ -245,6 +279,9 @@ def test_nested_repository(place: Place) -> None:
         place.put("project/a.yml", content)
         place.put("project/clone/a.yml", content)
         outcome = try_command(place, command, "clone/l")
+        if command in SHOWING:
+            check_followed(command, outcome, "project/a.yml")
+            continue
         why = f": clone/l: a link leads out of {place.tree}/project/clone; name {place.tree}/project/a.yml instead\n"
         assert why in outcome.message, f"{command} is refused"
         assert outcome.status == (status or 1), f"{command}: the status of a refusal"

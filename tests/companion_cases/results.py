@@ -120,8 +120,8 @@ OF_VAULT = b"x: 1\n" + block("old", OF_VALUE, name="b")
 
 
 def test_places_within(place: Place) -> None:
-    """Each place names that of the vault or value around it, however deep it is. The names of keys in a plaintext are as
-    secret as the rest of it."""
+    """Each place names that of the vault or value around it, however deep it is. The names of keys in a plaintext are
+    secret."""
     place.put("a.yml", sealed("old", OF_VAULT))
     of_b = {"line": 3, "key_path": None, "within": NOWHERE}
     of_c = {"line": 3, "key_path": None, "within": of_b}

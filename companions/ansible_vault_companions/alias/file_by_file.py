@@ -37,10 +37,11 @@ class Files:
         self.end = b""
 
     def handle(self, path: str) -> None:
-        target = link_bounds.resolve_file(path)
+        is_shown = self.call.args.command == VIEW
+        target = link_bounds.resolve_to_read(path) if is_shown else link_bounds.resolve_file(path)
         before = reading.read_existing(target)
         after = self.run(before)
-        if self.call.args.command == VIEW:
+        if is_shown:
             output.write_data(self.end + after)
             self.end = b"\n" if after and not after.endswith(b"\n") else b""
         else:

@@ -13,17 +13,18 @@ from ansible_vault_companions.refusals import Refused
 STATUS_NOT_OPENED = 3
 
 
-def resolve_path(path: str) -> str:
+def resolve_to_read(path: str) -> str:
+    """The real path of a file that stays as it is."""
     try:
-        return link_bounds.resolve_file(path)
+        return link_bounds.resolve_to_read(path)
     except Refused as fault:
         raise Refused(refusals.describe_refusal(path, fault)) from None
 
 
 def resolve_new(path: str) -> str:
     """The real path of a file that may be missing, but not its directory."""
-    target = resolve_path(path)
     try:
+        target = link_bounds.resolve_file(path)
         link_bounds.require_folder(target)
     except Refused as fault:
         raise Refused(refusals.describe_refusal(path, fault)) from None

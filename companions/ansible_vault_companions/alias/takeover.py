@@ -8,7 +8,7 @@ from argparse import Namespace
 
 from ansible_vault_companions import processes, refusals
 from ansible_vault_companions.alias.command_line import ENCRYPT_STRING, ENCRYPTING, REKEY, STANDARD_INPUT, VIEW
-from ansible_vault_companions.alias.file_paths import require_readable, resolve_path
+from ansible_vault_companions.alias.file_paths import require_readable, resolve_to_read
 from ansible_vault_companions.alias.password_choice import Call
 from ansible_vault_companions.alias.standard_input import read_standard_input, replace_standard_input
 from ansible_vault_companions.envelopes.pointers import POINTER_START, Pointer
@@ -52,7 +52,7 @@ def _resolve_paths(args: Namespace, reads_input: bool) -> None:
     """Puts the real paths of files in place of those that were given."""
     if args.command != ENCRYPT_STRING and not reads_input:
         path = args.arguments[0]
-        args.arguments[0] = resolve_path(path)
+        args.arguments[0] = resolve_to_read(path)
         require_readable(path, args.arguments[0])
         _refuse_pointer(path, args.arguments[0])
 

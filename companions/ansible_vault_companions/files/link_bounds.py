@@ -1,7 +1,8 @@
-"""Where a path leads. A link in a repository is followed only within it; outside of git, only within what was named.
+"""Where a path leads.
 
-A repository may come from a stranger, who could otherwise have the user read, show or replace any of the user's files.
-The directories of a typed path are the user's choice until they enter a repository.
+A link counts if the user or root has made it. Anybody else's leads only to files of that user's own: it could have the
+user, or root, read or replace any other file. A repository may come from a stranger, who has the user make its links.
+So what is replaced, and what is found in a search, is not where a link in a repository leads out of it.
 """
 
 from __future__ import annotations
@@ -17,11 +18,11 @@ GIT = ".git"
 WITHIN_GIT = f"/{GIT}/"
 
 
-class LeadsOut(Refused):
-    """A path leads out of a repository, or out of a directory that was named, through a link."""
+class NotFollowed(Refused):
+    """A link on a path is not followed."""
 
-    def __init__(self, bound: str, target: str) -> None:
-        super().__init__(f"a link leads out of {escape(bound)}; name {quote_word(target)} instead")
+    def __init__(self, why: str, target: str) -> None:
+        super().__init__(f"{why}; name {quote_word(target)} instead")
         self.target = target
 
 
@@ -50,51 +51,82 @@ def is_within(path: str, folder: str) -> bool:
     return path == folder or path.startswith(below) and WITHIN_GIT not in f"/{path[len(below) :]}/"
 
 
+def resolve_to_read(path: str) -> str:
+    """The real path of a typed file, wherever its links lead. A name of an open file or of a device stays as it is."""
+    return path if _is_open_file(path) else follow_links(path)[0]
+
+
 def resolve_file(path: str) -> str:
-    """The real path of a typed file, whose links must not lead out of a repository or, outside of git, out of its
-    directory. A name of an open file or of a device stays as it is."""
-    folder = os.path.realpath(os.path.dirname(_make_absolute(path)))
-    # Only the system can follow the links in these directories, such as /dev/stdin.
-    has_open_files = folder == "/dev" or folder.startswith("/proc/") and folder.endswith("/fd")
-    return path if has_open_files else resolve_path(path, folder)
+    """The real path of a typed file that may be replaced. A name of an open file or of a device stays as it is."""
+    return path if _is_open_file(path) else resolve_path(path)
 
 
 def resolve_path(path: str, bound: str = "") -> str:
-    """The real path to which a path leads. Refuses one whose links lead out of a repository that it enters or, if none
-    of these is the user's own, out of the bound."""
-    path = _make_absolute(path)
-    target, typed = os.path.realpath(path), os.path.normpath(path)
-    for top in _list_bounds(typed, bound) if target != typed else ():
-        if not is_within(target, top):
-            raise LeadsOut(top, target)
+    """The real path to which a path leads. Refuses one with a link that leads out of its repository or, if it is in
+    none, out of the bound."""
+    target, links = follow_links(path)
+    for link in links:
+        top = find_repository(os.path.dirname(link)) or bound
+        if top and not is_within(target, top):
+            raise NotFollowed(f"a link leads out of {escape(top)}", target)
     return target
 
 
+def follow_links(path: str) -> tuple[str, list[str]]:
+    """What list_links returns. Refuses another user's link."""
+    target, links = list_links(path)
+    for link in links:
+        _require_own(link, target)
+    return target, links
+
+
+def list_links(path: str) -> tuple[str, list[str]]:
+    """The real path to which a path leads, and those of the links on the way, in order."""
+    target = "/"
+    links: list[str] = []
+    names = _make_absolute(path).split(os.sep)[::-1]
+    while names:
+        name = names.pop()
+        if name == os.pardir:
+            target = os.path.dirname(target)
+        elif name not in ("", os.curdir):
+            target = os.path.join(target, name)
+            if os.path.islink(target):
+                links.append(target)
+                text = os.readlink(target)
+                target = "/" if os.path.isabs(text) else os.path.dirname(target)
+                names += text.split(os.sep)[::-1]
+    return target, links
+
+
+def _require_own(link: str, target: str) -> None:
+    owner = os.lstat(link).st_uid
+    if owner not in (os.geteuid(), 0) and owner != _find_owner(target):
+        raise NotFollowed(f"{escape(link)} is another user's link", target)
+
+
+def _find_owner(path: str) -> int:
+    """The owner of a file or, until there is one, of its directory."""
+    try:
+        return os.lstat(path).st_uid
+    except FileNotFoundError:
+        return os.lstat(os.path.dirname(path)).st_uid
+
+
+def _is_open_file(path: str) -> bool:
+    """Whether only the system can follow a path, such as /dev/stdin."""
+    folder = os.path.realpath(os.path.dirname(_make_absolute(path)))
+    return folder == "/dev" or folder.startswith("/proc/") and folder.endswith("/fd")
+
+
 def _make_absolute(path: str) -> str:
-    """The same path from the root directory. Refuses one on which the system does not follow all links: Python's
-    realpath goes on, by recursion."""
+    """The same path from the root directory. Refuses one on which the system does not follow all links, as in a loop."""
     try:
         os.stat(path)
     except OSError as fault:
         if fault.errno == errno.ELOOP:
             raise
     return path if os.path.isabs(path) else os.path.join(find_current_folder(), path)
-
-
-def _list_bounds(path: str, bound: str) -> list[str]:
-    """The directories out of which the links of an absolute path must not lead: the repository of each directory on it.
-    The real path alone would not tell: that of `repository/link/file` may have no repository, or another one."""
-    steps = path.split(os.sep)
-    above = [os.path.realpath(os.sep.join(steps[:count]) or os.sep) for count in range(len(steps) - 1, 0, -1)]
-    repositories = [*dict.fromkeys(filter(None, map(find_repository, above)))]
-    is_bounded = bound and not any(map(_is_own_repository, repositories))
-    return [os.path.realpath(bound), *repositories] if is_bounded else repositories
-
-
-def _is_own_repository(repository: str) -> bool:
-    """Whether a repository is the user's or root's. Anybody may put a `.git` into a directory such as /tmp, which does
-    not widen the bound."""
-    return os.lstat(os.path.join(repository, GIT)).st_uid in (os.geteuid(), 0)
 
 
 def require_folder(target: str) -> None:

@@ -194,7 +194,7 @@ def _resolve(path: str, resolve: Callable[..., str], *words: str) -> tuple[str, 
     nowhere stays as it is."""
     try:
         return resolve(*words), ""
-    except link_bounds.LeadsOut as fault:
+    except link_bounds.NotFollowed as fault:
         return fault.target, str(fault)
     except OSError as fault:
         return path, describe_fault(fault, words[0])

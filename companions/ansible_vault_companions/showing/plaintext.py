@@ -28,7 +28,7 @@ def print_plaintext(
     companion: str, path: str, value: str | None, load: Callable[[], tuple[list[Password], Policy]]
 ) -> None:
     """Prints a typed file or, if one is named, only a value of it."""
-    target = link_bounds.resolve_file(path)
+    target = link_bounds.resolve_to_read(path)
     if _is_commit_message_open():
         if value is not None:
             raise Refused(WOULD_STAY)
