@@ -19,6 +19,7 @@ ATTRIBUTES = "*.vault.yml diff=ansible-vault merge=ansible-vault\n"
 NAMES = ["pre-commit", "pre-merge-commit"]
 OR_ELSE = '|| { [ "$?" -eq 128 ] || git merge-file -q %A %O %B; exit 1; }'
 DIFF, DRIVER = SETTINGS = ["diff.ansible-vault.textconv", "merge.ansible-vault.driver"]
+CACHE = "diff.ansible-vault.cachetextconv"
 NOT_IN_GIT = "git diff in this clone lacks the new password: give it to ansible-vault-hook --install, too\n"
 
 
@@ -43,7 +44,10 @@ def test_installed(place: Place, file: str) -> None:
         assert told(done) == ["a.vault.yml is not encrypted"]
     for what in ("removed", "not installed"):
         done = place.run(HOOK, "--uninstall", folder="../second")
-        lines = [*(f"{hooks}/{name}: {what}" for name in NAMES), *(f"{setting}: not set" for setting in SETTINGS)]
+        lines = [
+            *(f"{hooks}/{name}: {what}" for name in NAMES),
+            *(f"{setting}: not set" for setting in [*SETTINGS, CACHE]),
+        ]
         assert (done.returncode, done.stdout.splitlines(), done.stderr) == (0, lines, ""), what
     silent("git runs no hook", add_and_commit(place))
 
@@ -52,7 +56,7 @@ def test_drivers(place: Place) -> None:
     """With secrets, git diff and git merge work, whichever shell git runs. --uninstall undoes everything."""
     under_git(place, ATTRIBUTES)
     (place.secrets / "d@%Oev").symlink_to(place.secret("dev"))
-    secrets = ["--vault-id", "dev@~/secrets/d@%Oev", "--vault-password-file", "~/secrets/old"]
+    secrets = ["--vault-id=dev@~/secrets/d@%Oev", "--vault-password-file=~/secrets/old"]
     place.put("b.vault.yml", sealed("dev", label="dev"))
     fork(place, *({"a.vault.yml": sealed("old", text)} for text in (BASE, OURS, THEIRS)))
     before = place.get(".git/config")
@@ -62,15 +66,39 @@ def test_drivers(place: Place) -> None:
     for status in ("set to", "is already"):
         done = place.run(HOOK, "--install", *secrets)
         lines = [f"{setting}: {status} {value}" for setting, value in zip(SETTINGS, values)]
-        assert (done.returncode, done.stderr, done.stdout.splitlines()[2:4]) == (0, "", lines), status
+        lines.append(f"{CACHE}: set to false")
+        assert (done.returncode, done.stderr, done.stdout.splitlines()[2:5]) == (0, "", lines), status
     ended("git diff", place.shell("git show; git show HEAD^"), 0, "-one: 1\n+one: I", f"+{TEXT.decode()}")
     ended("git merge", place.shell("git merge --no-edit theirs && git show -m"), 0, "+one: I", "+four: IV")
     (place.tools / MERGE).unlink()
     done = place.shell("git reset -q --hard HEAD^ && git merge --no-edit theirs; grep -c '^<<<<<<< ' a.vault.yml")
     assert done.stdout.endswith("fix conflicts and then commit the result.\n1\n"), "without the driver"
     done = place.run(HOOK, "--uninstall")
-    ended("it is undone", done, 0, f"{DIFF}: removed", f"{DRIVER}: removed")
+    ended("it is undone", done, 0, f"{DIFF}: removed", f"{DRIVER}: removed", f"{CACHE}: removed")
     assert place.get(".git/config") == before, "nothing is left of it"
+
+
+@pytest.mark.parametrize("name", ["--vault-id", "--vault-password-file", "--"])
+def test_file_with_the_name_of_an_option(place: Place, name: str) -> None:
+    """Anybody can commit it, and git diff and git merge still work."""
+    under_git(place, ATTRIBUTES)
+    place.put(name, b"")
+    fork(place, *({"a.vault.yml": sealed("old", text)} for text in (BASE, OURS, THEIRS)))
+    place.run(HOOK, "--install", *place.by_id("dev", "dev"), *place.by_file("old"))
+    ended("git show", place.run("git", "show"), 0, "-one: 1\n+one: I")
+    ended("git merge", place.shell("git merge --no-edit theirs && git show -m"), 0, "+one: I", "+four: IV")
+
+
+@pytest.mark.parametrize("scope", ["--local", "--global"])
+def test_no_cache(place: Place, scope: str) -> None:
+    """Whatever the user has set, git keeps no plaintext among its objects."""
+    under_git(place, ATTRIBUTES)
+    place.environment["GIT_CONFIG_GLOBAL"] = f"{place.path}/settings"
+    place.run("git", "config", scope, CACHE, "true")
+    fork(place, *({"a.vault.yml": sealed("old", text)} for text in (BASE, OURS, THEIRS)))
+    place.run(HOOK, "--install", *place.by_file("old"))
+    ended("git show", place.run("git", "show"), 0, "-one: 1\n+one: I")
+    assert place.run("git", "for-each-ref", "refs/notes").stdout == ""
 
 
 @pytest.mark.parametrize("names, lacks", [([], False), (["old"], True), (["new"], False), (["old", "new"], False)])
@@ -207,7 +235,7 @@ def test_those_of_others(place: Place) -> None:
     ended("an installation", done, 1, why, f"{DIFF} is already `cat --`; to change it, unset it", f"{DRIVER} is")
     assert os.readlink(other) == f"{place.tools}/{HOOK}"
     left = f"{hook}: left alone, since --install did not make it\n{other}: removed\n"
-    left += f"{DIFF}: not set\n{DRIVER}: left alone, since --install did not set it: mine\n"
+    left += f"{DIFF}: not set\n{DRIVER}: left alone, since --install did not set it: mine\n{CACHE}: removed\n"
     ended("it is undone", place.run(HOOK, "--uninstall"), 0, left)
     assert os.readlink(hook) == "/nowhere/else"
     assert place.shell("git config --get-regexp ansible-vault").stdout == f"{DIFF} cat --\n{DRIVER} mine\n"
@@ -259,7 +287,7 @@ def test_every_password(place: Place) -> None:
     ended("it is installed", place.run(HOOK, "--install", *words), 0)
     for setting in SETTINGS:
         command, _, _ = place.run("git", "config", setting).stdout.partition(" %O ")
-        assert shlex.split(command)[1:] == words, setting
+        assert shlex.split(command)[1:] == ["=".join(pair) for pair in zip(words[::2], words[1::2])], setting
 
 
 @pytest.mark.parametrize("is_alone", (False, True), ids=["with the others", "a link alone"])

@@ -27,6 +27,8 @@ SETTINGS = {
     TEXTCONV: ("ansible-vault-textconv", ""),
     "merge.ansible-vault.driver": ("ansible-vault-merge", f" %O %A %B %P{OR_ELSE}"),
 }
+# With this setting, git would keep plaintext as its own objects, which a push may publish.
+CACHE, NO_CACHE = "diff.ansible-vault.cachetextconv", "false"
 # Where hooks are in git's own directory, unless core.hooksPath is set.
 HOOKS = "hooks"
 # The name of a new link until it takes the place of the old one. Nobody else uses it.
@@ -114,9 +116,14 @@ def install_setting(setting: str, value: str) -> str:
     return f"is already {escape(value)}" if old == value else f"set to {escape(value)}"
 
 
+def forbid_cache(setting: str) -> str:
+    run_git("config", "--local", "--replace-all", setting, NO_CACHE)
+    return f"set to {NO_CACHE}"
+
+
 def uninstall_setting(setting: str) -> str:
     value = read_setting(setting, "--local")
-    if value and _runs_companion(value, setting):
+    if value and (value == NO_CACHE if setting == CACHE else _runs_companion(value, setting)):
         run_git("config", "--local", "--unset-all", setting)
         return "removed"
     return f"left alone, since --install did not set it: {escape(value)}" if value else "not set"
