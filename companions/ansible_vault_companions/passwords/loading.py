@@ -9,8 +9,10 @@ import os
 import stat
 
 from ansible_vault_companions.envelopes.header import MAGIC
+from ansible_vault_companions.files import link_bounds
 from ansible_vault_companions.limits import LONGEST_PASSWORD
 from ansible_vault_companions.output import write_error
+from ansible_vault_companions.passwords import working_tree
 from ansible_vault_companions.passwords.labels import is_allowed
 from ansible_vault_companions.passwords.password import Password
 from ansible_vault_companions.passwords.settings import expand_path
@@ -23,10 +25,12 @@ NO_DESCRIPTORS = (
 )
 
 
-def read_passwords(companion: str, sources: list[Source], asking: Asking, skips: bool = False) -> list[Password]:
+def read_passwords(
+    companion: str, sources: list[Source], asking: Asking, skips: bool = False, for_git: bool = False
+) -> list[Password]:
     """Reads the passwords. Those that are ignored stay in the list, since the one to encrypt with is chosen among all
     that are named."""
-    passwords = [read_password(source, asking) for source in sources]
+    passwords = [read_password(source, asking, for_git) for source in sources]
     ignored = _list_ignored(passwords, skips)
     for password in ignored:
         write_error(f"{companion}: {escape(password.source.text)}: {password.fault}; it is ignored")
@@ -63,10 +67,11 @@ def load_typed_password(asking: Asking, unanswered: str) -> Password:
     return password
 
 
-def read_password(source: Source, asking: Asking) -> Password:
-    """Keeps a password in memory, since `<(..)` can be read only once. To encrypt, the user has to type it twice."""
+def read_password(source: Source, asking: Asking, for_git: bool = False) -> Password:
+    """Keeps a password in memory, since `<(..)` can be read only once. To encrypt, the user has to type it twice. What
+    git runs takes no file of the repository."""
     try:
-        content = _read(source, asking)
+        content = _read(source, asking, for_git)
         descriptor = _keep_in_memory(content)
     except (Refused, OSError) as fault:
         why = describe_fault(fault, os.path.expanduser(os.path.expandvars(source.place)))
@@ -91,7 +96,7 @@ def _require_descriptors(descriptor: int) -> None:
         raise Refused(NO_DESCRIPTORS)
 
 
-def _read(source: Source, asking: Asking) -> bytes:
+def _read(source: Source, asking: Asking, for_git: bool) -> bytes:
     if source.is_prompt:
         # Most passwords are in files, which are read without this module and that of scripts.
         from ansible_vault_companions.passwords import prompts
@@ -99,7 +104,11 @@ def _read(source: Source, asking: Asking) -> bytes:
         return prompts.ask_password(source.place, source.label, asking)
     path = expand_path(source.place)
     mode = os.stat(path).st_mode
-    if stat.S_ISREG(mode) and mode & 0o111:
+    is_program = stat.S_ISREG(mode) and mode & 0o111 > 0
+    if for_git:
+        working_tree.refuse_within(path, link_bounds.find_current_folder())
+    working_tree.refuse_tracked(path, is_program, is_named=not source.is_of_folder)
+    if is_program:
         from ansible_vault_companions.passwords import scripts
 
         return scripts.run_script(path, source.written_label)[: LONGEST_PASSWORD + 1]

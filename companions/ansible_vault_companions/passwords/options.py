@@ -33,7 +33,7 @@ ANY_LABEL_HELP = "accept a password whose label differs from the vault's"
 
 def add_options(parser: argparse.ArgumentParser, before: str = "") -> None:
     """Adds the options that name passwords. `before` begins the names of the attributes that get the values."""
-    parser.set_defaults(new_vault_id=[], new_vault_password_file=[], any_label=False, asks_if_none=False)
+    parser.set_defaults(new_vault_id=[], new_vault_password_file=[], any_label=False, asks_if_none=False, for_git=False)
     ids, text = f"{before}vault_id", "the source of a password; may be repeated"
     _add_source(parser, ["--vault-id"], ids, "[LABEL@]SOURCE", text)
     by_path = ["--vault-password-file", "--vault-pass-file"]
@@ -85,7 +85,7 @@ def load_named(
     settings = read_settings(args, lambda text: write_error(f"{companion}: {text}"))
     sources = list_sources(args.vault_id, args.vault_password_file, settings)
     if sources:
-        passwords = loading.read_passwords(companion, sources, asking, skips)
+        passwords = loading.read_passwords(companion, sources, asking, skips, args.for_git)
     else:
         passwords = [_ask_or_refuse(args, asking, settings, parser)]
     requires_match = getattr(args, "require_id_match", False)

@@ -103,6 +103,10 @@ class Settings:
         is_off = self.beside_options and not os.environ.get(CONFIG) and _is_readable(NAME)
         return SWITCHED_OFF if is_off else ""
 
+    def is_of_folder(self, setting: tuple[str, str]) -> bool:
+        """Whether ./ansible.cfg has the value of a setting, which a stranger may have committed."""
+        return self.path == NAME and setting[0] not in os.environ
+
     def _read(self, setting: tuple[str, str]) -> str:
         variable, key = setting
         return os.environ.get(variable, self.keys.get(key, ""))

@@ -5,7 +5,7 @@ from __future__ import annotations
 
 from ansible_vault_companions.envelopes.header import DEFAULT_LABEL
 from ansible_vault_companions.limits import MOST_PASSWORDS
-from ansible_vault_companions.passwords.settings import ASK, PROMPT, Settings, split_vault_id
+from ansible_vault_companions.passwords.settings import ASK, IDENTITIES, PASSWORD_FILE, PROMPT, Settings, split_vault_id
 from ansible_vault_companions.refusals import Refused
 
 # The options that ask for a password without a label, and the word for them in place of [LABEL@]SOURCE.
@@ -30,7 +30,9 @@ class Asking:
 class Source:
     """What was written for one password."""
 
-    def __init__(self, label: str, place: str, text: str, is_prompt: bool, is_setting: bool) -> None:
+    def __init__(
+        self, label: str, place: str, text: str, is_prompt: bool, is_setting: bool, is_of_folder: bool = False
+    ) -> None:
         # The label that was written, which a script gets; empty if there is none.
         self.written_label = label
         self.label = label or DEFAULT_LABEL
@@ -41,28 +43,31 @@ class Source:
         self.is_prompt = is_prompt
         # Whether a setting names it. If it cannot be used, it may be ignored.
         self.is_setting = is_setting
+        # Whether only ./ansible.cfg names it, which a stranger may have committed.
+        self.is_of_folder = is_of_folder
 
 
-def parse_vault_id(text: str, is_setting: bool = False) -> Source:
+def parse_vault_id(text: str, is_setting: bool = False, is_of_folder: bool = False) -> Source:
     """The source that [LABEL@]SOURCE names."""
     label, place = split_vault_id(text)
     if place in (PROMPT, ASK):
         return Source(label, place, ASK_OPTIONS[1] if text == ASK_ID else text, is_prompt=True, is_setting=is_setting)
-    return Source(label, place, text, is_prompt=False, is_setting=is_setting)
+    return Source(label, place, text, is_prompt=False, is_setting=is_setting, is_of_folder=is_of_folder)
 
 
-def make_path_source(path: str, is_setting: bool = False) -> Source:
-    return Source(DEFAULT_LABEL, path, path, is_prompt=False, is_setting=is_setting)
+def make_path_source(path: str, is_setting: bool = False, is_of_folder: bool = False) -> Source:
+    return Source(DEFAULT_LABEL, path, path, is_prompt=False, is_setting=is_setting, is_of_folder=is_of_folder)
 
 
 def list_sources(ids: list[str], paths: list[str], settings: Settings) -> list[Source]:
     """All sources that options and settings name, in Ansible's order."""
-    sources = [parse_vault_id(text, is_setting=True) for text in settings.list_identities()]
+    is_of_folder = settings.is_of_folder(IDENTITIES)
+    sources = [parse_vault_id(text, True, is_of_folder) for text in settings.list_identities()]
     sources += [parse_vault_id(text) for text in ids if text != ASK_ID]
     sources += [make_path_source(path) for path in paths]
     path = settings.find_password_file()
     if path:
-        sources.append(make_path_source(path, is_setting=True))
+        sources.append(make_path_source(path, True, settings.is_of_folder(PASSWORD_FILE)))
     if ASK_ID in ids or settings.is_asking():
         sources.append(parse_vault_id(ASK_ID))
     if len(sources) > MOST_PASSWORDS:

@@ -1,0 +1,54 @@
+"""Password files in a working tree. Whoever commits the name of an ignored one replaces it, and git does not say so."""
+
+from __future__ import annotations
+
+import os
+
+from ansible_vault_companions.files import link_bounds
+from ansible_vault_companions.quoting import escape
+from ansible_vault_companions.refusals import Refused
+
+REPLACEABLE = "it is in the repository {}, where a commit can replace it; move it out, for example to ~/.vault_pass"
+TRACKED = "git tracks {}: everybody who has the repository has this password, or can replace it"
+NOT_NAMED = (
+    "git tracks this script, and only ./ansible.cfg names it; to run it, name it with --vault-password-file or in "
+    "ANSIBLE_VAULT_PASSWORD_FILE"
+)
+
+
+def refuse_within(path: str, folder: str) -> None:
+    """Refuses a password file that is in the repository of a directory, or to which a link in that leads."""
+    top = link_bounds.find_repository(folder)
+    if top and any(link_bounds.is_within(place, top) for place in _list_places(path)):
+        raise Refused(REPLACEABLE.format(escape(top)))
+
+
+def refuse_tracked(path: str, is_program: bool, is_named: bool) -> None:
+    """Refuses a password file that git tracks, or to which a link leads that git tracks. A program may be tracked if the
+    user has named it."""
+    if is_program and is_named:
+        return
+    for place in _list_places(path):
+        if _is_tracked(place):
+            raise Refused(NOT_NAMED if is_program else TRACKED.format(escape(place)))
+
+
+def _list_places(path: str) -> list[str]:
+    """The real paths of a file and of the links on the way to it."""
+    target, links = link_bounds.list_links(path)
+    return [*links, target]
+
+
+def _is_tracked(place: str) -> bool:
+    """Whether git says that it tracks what is at a real path. It may be missing, or refuse another user's repository."""
+    top = link_bounds.find_repository(os.path.dirname(place))
+    if top is None:
+        return False
+    # Most passwords are in no repository.
+    from ansible_vault_companions.git.commands import run_git_command
+
+    try:
+        done = run_git_command("ls-files", "--error-unmatch", "--", os.path.relpath(place, top), folder=top)
+    except Refused:
+        return False
+    return done.returncode == 0
