@@ -188,10 +188,8 @@ def is_rotate_answer(run: Run, number: int | None) -> bool:
     return is_counted and is_right and run.status == 1 and (missing == 1) == (rotated == 0 and failed == missing)
 
 
-def is_textconv_answer(run: Run, content: bytes, leads_out: bool) -> bool:
-    """A vault is shown in plaintext, and what has no envelope as it is. No link is followed out of the repository."""
-    if leads_out:
-        return (run.status, run.output) == (1, "") and re.fullmatch(LEADS_OUT, run.errors.rstrip("\n")) is not None
+def is_textconv_answer(run: Run, content: bytes) -> bool:
+    """A vault is shown in plaintext, and what has no envelope as it is, wherever a link leads."""
     if re.fullmatch(SHOWN, run.errors) is None or run.status != 0:
         return False
     text = TEXTS.get(content, None if b"ANSIBLE_VAULT" in content else NOT_ENCRYPTED + content.decode())
@@ -227,9 +225,7 @@ class Watch(NamedTuple):
         rotate = [ROTATE, "--dry-run", *old, *place.by_file("new", "new-"), "."]
         self.run(name, rotate, partial(is_rotate_answer, number=number))
         for path in self.team.random.sample(sorted(before), min(2, len(before))):
-            leads_out = not (place.tree / path).resolve().is_relative_to(place.tree.resolve())
-            is_allowed = partial(is_textconv_answer, content=before[path], leads_out=leads_out)
-            self.run(name, [TEXTCONV, *old, path], is_allowed)
+            self.run(name, [TEXTCONV, *old, path], partial(is_textconv_answer, content=before[path]))
         assert place.files() == before, "nothing is changed"
 
     def run_hook(self, name: str, leak: Leak | None) -> None:

@@ -257,7 +257,7 @@ UNREADABLE = {
     "a pipe": ("mkfifo a.yml", "it is not a regular file"),
     "a loop": ("ln -s a.yml a.yml", "Too many levels of symbolic links"),
     "a closed file": ("echo x > a.yml; chmod 0 a.yml", "Permission denied"),
-    "a device": ("ln -s /dev/null a.yml", "a link leads out of "),
+    "a device": ("ln -s /dev/null a.yml", "it is not a regular file"),
 }
 
 
