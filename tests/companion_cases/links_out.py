@@ -182,7 +182,7 @@ def test_each_link(place: Place, name: str, is_repository: bool, subtests: SubTe
             if why and (command not in SHOWING or why == LOOP):
                 check_refused(command, outcome, f": {kind.path}: {why}", COMMANDS[command].status or 1)
             elif kind.file not in FILES and (command != "edit" or "/new.yml" not in kind.file):
-                check_refused(command, outcome, f": {kind.path}: {MISSING}", 3 if command in BY_PROGRAM else 1)
+                check_refused(command, outcome, MISSING, 3 if command in BY_PROGRAM else 1)
             elif "/.git/" in kind.file:
                 check_refused(command, outcome, f": {kind.path}: there is no directory ", 1)
             else:

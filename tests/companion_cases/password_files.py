@@ -1,4 +1,4 @@
-"""Password files in a working tree: whoever commits the name of one replaces an ignored file, and git does not say so."""
+"""Password files in a working tree. Whoever commits the name of an ignored one replaces it, and git does not say so."""
 
 import os
 from typing import NamedTuple
@@ -60,7 +60,8 @@ def test_what_git_runs(place: Place, where: str) -> None:
     place.shell(WITHIN[where])
     path = where.format(tree=place.tree, path=place.path)
     before = place.get(".git/config")
-    why = f"it is in the repository {place.tree}, where a commit can replace it; move it out, for example to ~/.vault_pass\n"
+    why = f"it is in the repository {place.tree}, where a commit can replace it; move it out, for example to "
+    why += "~/.vault_pass\n"
     for option in ("--vault-id=prod@", "--vault-password-file="):
         ended("an installation", place.run(HOOK, "--install", f"{option}{path}"), 2, f"{path}: {why}")
     assert place.get(".git/config") == before and ".git/hooks/pre-commit" not in place.names(), "nothing is done"

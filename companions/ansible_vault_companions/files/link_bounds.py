@@ -120,7 +120,7 @@ def _is_open_file(path: str) -> bool:
 
 
 def _make_absolute(path: str) -> str:
-    """The same path from the root directory. Refuses one on which the system does not follow all links, as in a loop."""
+    """The same path from the root directory. Refuses one on which the system does not follow all links."""
     try:
         os.stat(path)
     except OSError as fault:

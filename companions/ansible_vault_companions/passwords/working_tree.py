@@ -24,8 +24,8 @@ def refuse_within(path: str, folder: str) -> None:
 
 
 def refuse_tracked(path: str, is_program: bool, is_named: bool) -> None:
-    """Refuses a password file that git tracks, or to which a link leads that git tracks. A program may be tracked if the
-    user has named it."""
+    """Refuses a password file that git tracks, or to which a link leads that git tracks. A program may be tracked if
+    the user has named it."""
     if is_program and is_named:
         return
     for place in _list_places(path):
@@ -40,7 +40,7 @@ def _list_places(path: str) -> list[str]:
 
 
 def _is_tracked(place: str) -> bool:
-    """Whether git says that it tracks what is at a real path. It may be missing, or refuse another user's repository."""
+    """Whether git says that it tracks what is at a real path. There may be no git, or one that does not answer."""
     top = link_bounds.find_repository(os.path.dirname(place))
     if top is None:
         return False
