@@ -84,7 +84,8 @@ def test_file_with_the_name_of_an_option(place: Place, name: str) -> None:
     under_git(place, ATTRIBUTES)
     place.put(name, b"")
     fork(place, *({"a.vault.yml": sealed("old", text)} for text in (BASE, OURS, THEIRS)))
-    place.run(HOOK, "--install", *place.by_id("dev", "dev"), *place.by_file("old"))
+    words = [f"--vault-id=dev@{place.secret('dev')}", f"--vault-password-file={place.secret('old')}"]
+    ended("it is installed", place.run(HOOK, "--install", *words), 0)
     ended("git show", place.run("git", "show"), 0, "-one: 1\n+one: I")
     ended("git merge", place.shell("git merge --no-edit theirs && git show -m"), 0, "+one: I", "+four: IV")
 
