@@ -12,6 +12,7 @@ from lib.needs import needs_root
 
 pytestmark = pytest.mark.usefixtures("git")
 
+FILE, LIST = "ANSIBLE_VAULT_PASSWORD_FILE", "ANSIBLE_VAULT_IDENTITY_LIST"
 ATTRIBUTES = "*.vault.yml diff=ansible-vault merge=ansible-vault\n"
 SCRIPT = b"#!/bin/sh\ntouch ../started\necho the password old\n"
 CONFIGURED = b"[defaults]\nvault_password_file = .vault_pass\n"
@@ -127,7 +128,7 @@ def test_replaced_password(place: Place, words: list[str], is_link: bool) -> Non
     content = TEXT if "encrypt" in words else sealed("old")
     place.put("new.yml", content)
     if len(words) == 3:
-        place.environment["ANSIBLE_VAULT_PASSWORD_FILE"] = ".vault_pass"
+        place.environment[FILE] = ".vault_pass"
     done = place.run(*words, EDITOR=place.script(CHANGE, "editor"))
     ended(
         "it", done, 1, f"git tracks {place.tree}/.vault_pass: everybody who has the repository has this password, or "
@@ -140,7 +141,8 @@ def check_each(place: Place, words: list[str], name: str) -> None:
     that this password file has."""
     ended("check", place.run(CHECK, *words, "a.vault.yml"), 0, "1 decrypted, 0 failed")
     ended("view", place.run(WITH, "view", *words, "a.vault.yml"), 0, TEXT.decode())
-    silent("edit", place.run(EDIT, *words, "a.vault.yml", EDITOR=place.script('echo more >> "$1"', "editor")))
+    editor = place.script('echo more >> "$1"', "editor")
+    ended("edit", place.run(EDIT, *words, "a.vault.yml", EDITOR=editor), 0)
     old, new = [f"--vault-password-file={name}"], place.by_file("new", "new-")
     ended("rotate", place.run(ROTATE, *old, *new, "a.vault.yml"), 0, summary(1))
     assert decrypted("new", place.get("a.vault.yml")) == TEXT + b"more\n"
@@ -180,8 +182,8 @@ class Named(NamedTuple):
 NAMED = {
     "an option": Named(["--vault-password-file", "vault-pass.sh"], {}, runs=True),
     "a labeled one": Named(["--vault-id", "default@vault-pass.sh"], {}, runs=True),
-    "a variable": Named([], {"ANSIBLE_VAULT_PASSWORD_FILE": "./vault-pass.sh"}, runs=True),
-    "a list": Named([], {"ANSIBLE_VAULT_IDENTITY_LIST": "default@vault-pass.sh"}, runs=True),
+    "a variable": Named([], {FILE: "./vault-pass.sh", LIST: ""}, runs=True),
+    "a list": Named([], {FILE: "", LIST: "default@vault-pass.sh"}, runs=True),
     "the file of settings that the user names": Named([], {"ANSIBLE_CONFIG": "./ansible.cfg"}, runs=True),
     "./ansible.cfg alone": Named([], {}, runs=False),
 }
@@ -202,7 +204,7 @@ def test_tracked_script(place: Place, named: Named, key: str) -> None:
     if named.runs:
         check_each(place, named.words, "vault-pass.sh")
     else:
-        why = "git tracks this script, and only ./ansible.cfg names it; to run it, name it with --vault-password-file"
+        why = "git tracks this script, and only ./ansible.cfg names it; to run it, name it with an option or in the "
         ended("view", place.run(WITH, "view", "a.vault.yml"), 1, why)
     assert was_started(place) == named.runs
 

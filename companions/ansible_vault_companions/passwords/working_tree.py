@@ -11,8 +11,7 @@ from ansible_vault_companions.refusals import Refused
 REPLACEABLE = "it is in the repository {}, where a commit can replace it; move it out, for example to ~/.vault_pass"
 TRACKED = "git tracks {}: everybody who has the repository has this password, or can replace it"
 NOT_NAMED = (
-    "git tracks this script, and only ./ansible.cfg names it; to run it, name it with --vault-password-file or in "
-    "ANSIBLE_VAULT_PASSWORD_FILE"
+    "git tracks this script, and only ./ansible.cfg names it; to run it, name it with an option or in the environment"
 )
 
 
