@@ -135,17 +135,17 @@ def random_case(random: Random, folder: Path) -> Case:
     )
 
 
-def without_untrusted(case: Case) -> Case:
-    """Return the case without the settings that do not count beside options: those of the file, and relative paths."""
-    if not (case.ids or case.paths):
+def prefer_options(case: Case) -> Case:
+    """Return the case without the secrets of settings that an option goes before, and without a label that is theirs
+    alone."""
+    labels = [*map(label_of, [*case.ids, *case.paths])]
+    if not labels or not case.command[0].startswith("encrypt") or case.label and case.label not in labels:
         return case
-    if case.by_variables:
-        return case.only(lambda secret: "../secrets" not in secret)
-    return case.only(lambda secret: False)._replace(encrypt="", match="")
+    return case.only(lambda secret: False)._replace(encrypt=case.encrypt if case.encrypt in labels else "")
 
 
 def lacks_secret_to_encrypt_with(case: Case) -> bool:
-    """Return whether a secret that could encrypt is unusable, or two have the label. Ansible's tool chooses another."""
+    """Return whether a secret that could encrypt is unusable, or two have the label. Ansible's tool takes another."""
     if not case.command[0].startswith("encrypt"):
         return False
     label = case.label or case.encrypt
@@ -160,7 +160,7 @@ def what_counts(case: Case) -> Case | None:
     """Return the case without what counts only for Ansible's tool, or None if the manual page says it is refused."""
     if not all(map(is_usable, (*case.ids, *case.paths))):
         return None
-    case = without_untrusted(case)
+    case = prefer_options(case)
     if lacks_secret_to_encrypt_with(case):
         return None
     if ansible_release() < (2, 14):

@@ -9,7 +9,9 @@ from typing import NamedTuple
 import pytest
 
 from ansible_vault_companions.passwords.settings import Settings
-from companion_cases import CHECK, EDIT, ROTATE, TEXT, TEXTCONV, WITH, Place, check_answer, described, ended, sealed
+from companion_cases import CHECK, CONFLICT, EDIT, MERGE, ROTATE, TEXT, TEXTCONV, WITH, Place, block, check_answer
+from companion_cases import FOUND as FOUND_BLOCK
+from companion_cases import described, ended, sealed, texts, versions
 from lib.ansible import ansible_release
 from lib.needs import needs, needs_root
 from lib.subtests import SubTests
@@ -104,116 +106,87 @@ def test_match(place: Place, request: pytest.FixtureRequest, row: Match) -> None
     assert (status == 1) == by_ansible, f"forbidden by Ansible's tool: {errors}"
 
 
-class Strange(NamedTuple):
-    """Files and variables that name a script of an untrusted clone; and the paths, of variables and of the user's own
-    files, that are named when they are ignored beside options."""
+class Settled(NamedTuple):
+    """Files and variables that name the password `dev`, which a script prints that notes that it runs."""
 
     files: dict[str, str] = {}
     variables: dict[str, str] = {}
-    ignored: list[str] = []
 
 
-STRANGE = {
-    "a list": Strange(files={"ansible.cfg": LIST.format("old@./script, ./script")}),
-    "a variable with a relative path": Strange(variables={"ANSIBLE_VAULT_PASSWORD_FILE": "script"}, ignored=["script"]),
-    "a relative path with an @": Strange(
-        variables={"ANSIBLE_VAULT_IDENTITY_LIST": "old@at@/script"}, ignored=["at@/script"]
-    ),
-    "$PWD": Strange(
-        variables={"ANSIBLE_VAULT_IDENTITY_LIST": "$PWD/script, ${PWD}/script"},
-        ignored=["$PWD/script", "${PWD}/script"],
-    ),
-    "$PWD in the user's own file": Strange(
-        files={"../.ansible.cfg": FILE.format("$PWD/script")}, ignored=["$PWD/script"]
-    ),
-    "{{CWD}} in the user's own file": Strange(
-        files={"../.ansible.cfg": FILE.format("{{CWD}}/script")}, ignored=["{{CWD}}/script"]
-    ),
-    "a named file": Strange(
-        files={"ansible.cfg": FILE.format("./script")},
-        variables={"ANSIBLE_CONFIG": "ansible.cfg"},
-        ignored=["ansible.cfg"],
-    ),
+SETTLED = {
+    "a list": Settled(files={"ansible.cfg": LIST.format("dev@./script")}),
+    "a variable with a relative path": Settled(variables={"ANSIBLE_VAULT_PASSWORD_FILE": "script"}),
+    "$PWD": Settled(variables={"ANSIBLE_VAULT_IDENTITY_LIST": "dev@$PWD/script"}),
+    "a file of the user's own": Settled(files={"../.ansible.cfg": FILE.format("{{CWD}}/script")}),
+    "a named file": Settled(files={"far/my.cfg": FILE.format("../script")}, variables={"ANSIBLE_CONFIG": "far/my.cfg"}),
 }
-
-
-def put_strange(place: Place, row: Strange) -> None:
-    """Write the files, and scripts that note that they run."""
-    # PWD is as a shell sets it.
-    place.environment |= {"PWD": str(place.tree), **row.variables}
-    place.environment["EDITOR"] = place.script('echo more >> "$1"', "editor")
-    for name, content in row.files.items():
-        place.put(name, content.encode())
-    for path in ("script", "at@/script"):
-        place.put(path, b"#!/bin/sh\ntouch ../ran; cat ../secrets/prod\n", 0o755)
-    place.put("a.yml", sealed("old"))
-    place.put("plain.yml", TEXT)
-
-
-OLD, NEW = "--vault-password-file=../secrets/old", "--new-vault-password-file=../secrets/new"
-# Command lines that name no old secret, and their statuses.
-NEW_ALONE = {
-    f"{ROTATE} {NEW} a.yml": 2,
-    f"{ROTATE} --new-vault-id=../secrets/new a.yml": 2,
-    f"{WITH} rekey {NEW} a.yml": 1,
-    f"{WITH} rekey --new-vault-id=../secrets/new a.yml": 1,
-}
-BESIDE_OPTIONS = [
+OLD = "--vault-password-file=../secrets/old"
+NEW = "--new-vault-id=new@../secrets/new"
+# What reads beside an option for a password that does not open the vault, and what takes the old password from the
+# settings alone.
+READING = [
+    f"{CHECK} --any-label {OLD} a.yml",
     f"{WITH} view {OLD} a.yml",
-    f"{WITH} encrypt {OLD} --encrypt-vault-id default plain.yml",
-    f"{EDIT} {OLD} --encrypt-vault-id default new.yml",
-    f"{CHECK} {OLD} a.yml",
-    f"{ROTATE} {OLD} {NEW} a.yml",
+    f"{WITH} decrypt {OLD} --output - a.yml",
+    f"{EDIT} --any-label {OLD} a.yml",
+    f"{WITH} rekey --any-label {OLD} {NEW} a.yml",
+    f"{WITH} rekey {NEW} a.yml",
+    f"{ROTATE} --any-label {NEW} a.yml",
+    f"{TEXTCONV} --value . a.yml || {TEXTCONV} a.yml | grep ^db_password",
+]
+# What encrypts beside such an option, without an editor.
+ENCRYPTING = [
+    f"{WITH} encrypt {OLD} plain.yml",
+    f"{WITH} encrypt_string {OLD} --output plain.yml word",
+    f"{WITH} create {OLD} plain.yml",
+    f"{EDIT} --any-label {OLD} values.yml",
 ]
 
 
-@pytest.mark.parametrize("row", STRANGE.values(), ids=STRANGE)
-def test_what_is_not_trusted(place: Place, subtests: SubTests, row: Strange) -> None:
-    """Beside options, no companion runs a script that the current directory names, or encrypts with its secret."""
-    put_strange(place, row)
-    ran = place.path / "ran"
-    for line in BESIDE_OPTIONS:
-        with subtests.test(line):
-            done = place.shell(line)
-            assert done.returncode == 0, done.stderr
-            assert not ran.exists(), "no script is run"
-            untold = [path for path in row.ignored if f": {path}: beside options, a path in the" not in done.stderr]
-            assert untold == [], f"what is ignored is named: {done.stderr}"
-    for line, status in NEW_ALONE.items():
-        ended("a new secret is an option, too", place.shell(f"setsid --wait {line}"), status)
-        assert not ran.exists(), "no script is run"
-
-
-@pytest.mark.parametrize("row", STRANGE.values(), ids=STRANGE)
-@pytest.mark.parametrize("line", (f"{CHECK} a.yml", f"{WITH} view a.yml", f"{EDIT} a.yml"))
-def test_what_is_trusted_without_options(place: Place, row: Strange, line: str) -> None:
-    put_strange(place, row)
-    ended("the password of the script", place.shell(line), 1)
-    assert (place.path / "ran").exists(), "it is run"
-
-
-# Settings that lead to the same secret from everywhere: variables, and a file of the user's own.
-TRUSTED = {
-    "a path in the home directory": Strange(variables={"ANSIBLE_VAULT_PASSWORD_FILE": "~/secrets/dev"}),
-    "a source in the home directory": Strange(variables={"ANSIBLE_VAULT_IDENTITY_LIST": "default@~/secrets/dev"}),
-    "a file of the user's own": Strange(files={"../.ansible.cfg": FILE.format("secrets/dev")}),
-    "a list in it": Strange(files={"../.ansible.cfg": LIST.format("default@~/secrets/dev")}),
-    "a file that is named": Strange(
-        files={"../far/my.cfg": FILE.format("../secrets/dev")}, variables={"ANSIBLE_CONFIG": "~/far/my.cfg"}
-    ),
-    "a directory that is named": Strange(
-        files={"../far/ansible.cfg": FILE.format("../secrets/dev")}, variables={"ANSIBLE_CONFIG": "~/far"}
-    ),
-}
-
-
-@pytest.mark.parametrize("row", TRUSTED.values(), ids=TRUSTED)
-def test_what_counts_beside_options(place: Place, row: Strange) -> None:
-    """A path in the settings counts beside options if it does not start from the current directory."""
-    put_strange(place, row)
+def put_settings_of(place: Place, row: Settled) -> None:
+    # PWD is as a shell sets it.
+    place.environment |= {"PWD": str(place.tree), **row.variables}
+    place.environment["EDITOR"] = place.script('echo "word: !vault more" >> "$1"', "editor")
+    for name, content in row.files.items():
+        place.put(name, content.encode())
+    place.put("script", b"#!/bin/sh\ntouch ../ran; cat ../secrets/dev\n", 0o755)
     place.put("a.yml", sealed("dev"))
-    for line in (f"{CHECK} {OLD} a.yml", f"{WITH} view {OLD} a.yml"):
-        check_answer(line, place.shell(line), output=None)
+
+
+@pytest.mark.parametrize("row", SETTLED.values(), ids=SETTLED)
+@pytest.mark.parametrize("line", READING)
+def test_reading_beside_options(place: Place, row: Settled, line: str) -> None:
+    """To read, an option adds to the settings."""
+    put_settings_of(place, row)
+    done = place.shell(line)
+    assert done.returncode == 0 and (place.path / "ran").exists(), done
+
+
+@pytest.mark.parametrize("row", SETTLED.values(), ids=SETTLED)
+@pytest.mark.parametrize("line", ENCRYPTING)
+@pytest.mark.parametrize("label", ("", "dev"))
+def test_encrypting_beside_options(place: Place, row: Settled, line: str, label: str) -> None:
+    """To encrypt, a password that an option names goes before those of the settings, whatever label these choose."""
+    put_settings_of(place, row)
+    place.put("values.yml", block("dev", name="theirs", label="dev"))
+    place.put("plain.yml", TEXT)
+    if "create" in line:
+        (place.tree / "plain.yml").unlink()
+    done = place.shell(line, ANSIBLE_VAULT_ENCRYPT_IDENTITY=label)
+    assert done.returncode == 0, done
+    written = FOUND_BLOCK.findall(place.get(line.split()[-1] if "string" not in line else "plain.yml"))[-1]
+    assert [text is not None for text in (texts(written, "old")[0], texts(written, "dev")[0])] == [True, False], done
+
+
+@pytest.mark.parametrize("row", SETTLED.values(), ids=SETTLED)
+def test_what_git_runs(place: Place, row: Settled) -> None:
+    """Beside an option, textconv and merge read no settings, so no repository makes them run a script."""
+    put_settings_of(place, row)
+    done = place.run(TEXTCONV, OLD, "a.yml")
+    ended("it shows the vault as it is", done, 0, "not decrypted", "no secret decrypts this vault (label default")
+    words = versions(place, "b.yml", sealed("dev"), sealed("dev", b"ours\n"), sealed("dev", b"theirs\n"))
+    ended("it merges nothing", place.run(MERGE, OLD, *words), CONFLICT, f"tried {OLD.partition('=')[2]})")
+    assert not (place.path / "ran").exists(), "no script is run"
 
 
 @pytest.mark.parametrize("written", ["prod", "'prod'", '"prod"'])
@@ -257,7 +230,6 @@ def test_most_secrets(place: Place, count: int, status: int) -> None:
 # A home directory that there is not.
 LOST = "~nobody-has-this-name/script"
 WHY_LOST = "~ leads to no home directory; to mean a file of this name, begin with ./"
-IGNORED = f"{LOST}: beside options, a path in the"
 
 
 class Homeless(NamedTuple):
@@ -277,7 +249,6 @@ HOMELESS = {
     "a list": Homeless(CHECK, {"ANSIBLE_VAULT_IDENTITY_LIST": BESIDE}, 0, f"dev@{LOST}: {WHY_LOST}; it is ignored"),
     "a variable": Homeless(CHECK, {"ANSIBLE_VAULT_PASSWORD_FILE": LOST}, 1, f"{LOST}: {WHY_LOST}"),
     "a variable of a variable": Homeless(CHECK, {"ANSIBLE_VAULT_PASSWORD_FILE": "$LOST"}, 1, f"$LOST: {WHY_LOST}"),
-    "a list beside options": Homeless(f"{CHECK} {OLD}", {"ANSIBLE_VAULT_IDENTITY_LIST": f"dev@{LOST}"}, 0, IGNORED),
 }
 
 
@@ -297,7 +268,7 @@ def test_no_home(place: Place, monkeypatch: pytest.MonkeyPatch) -> None:
     monkeypatch.setattr(os.path, "expanduser", lambda path: path)
     monkeypatch.chdir(place.tree)
     place.put("~/.ansible.cfg", FILE.format("/the/strangers").encode())
-    assert Settings(False, print).find_password_file() == "", "none is found"
+    assert Settings(print).find_password_file() == "", "none is found"
 
 
 # In each file, a text that is not to be shown.
@@ -476,4 +447,4 @@ def test_values_for_true(monkeypatch: pytest.MonkeyPatch) -> None:
     for value, is_true in values.items():
         for spelling in (value, value.upper(), value.title(), f"'{value}'"):
             monkeypatch.setenv("ANSIBLE_ASK_VAULT_PASS", spelling)
-            assert Settings(False, print).is_asking() == is_true, spelling
+            assert Settings(print).is_asking() == is_true, spelling

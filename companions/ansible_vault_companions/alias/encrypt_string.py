@@ -10,7 +10,7 @@ from ansible_vault_companions import quoting
 from ansible_vault_companions.alias.command_line import STANDARD_INPUT
 from ansible_vault_companions.alias.output_file import write_output
 from ansible_vault_companions.alias.password_choice import Call
-from ansible_vault_companions.alias.standard_input import read_standard_input
+from ansible_vault_companions.alias.standard_input import read_standard_input, takes_input
 from ansible_vault_companions.output import write_error
 from ansible_vault_companions.passwords import prompts
 from ansible_vault_companions.tool import Tool
@@ -31,7 +31,7 @@ def encrypt_strings(companion: str, call: Call) -> int:
     values = []
     for number, string in enumerate(strings, 1):
         named = [f"--stdin-name={string.name}"] if string.name else []
-        words = [*call.words("--stdin-name", "--output"), *named]
+        words = [*call.words(call.passwords, "--stdin-name", "--output"), *named]
         values.append(tool.run(words, string.content, call.passwords, call.new_label))
         if len(strings) > 1:
             what = f"the variable {quoting.escape(string.name)}" if string.name else "a string without a name"
@@ -47,7 +47,7 @@ def _list_strings(args: Namespace, reads_lines: bool) -> list[String]:
         else:
             name = args.name[0]
         strings.append(String(prompts.ask_string(not args.show_input, reads_lines), name, "the prompt"))
-    if STANDARD_INPUT in args.arguments or args.stdin_name is not None:
+    if takes_input(args):
         strings.append(String(read_standard_input(), args.stdin_name, "standard input"))
     arguments = [os.fsencode(text) for text in args.arguments if text != STANDARD_INPUT]
     names = [*args.name, *[None] * len(arguments)]

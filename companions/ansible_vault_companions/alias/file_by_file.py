@@ -1,22 +1,22 @@
-"""Replaces or shows each file, with a run of ansible-vault for each. After one that fails, others still follow."""
+"""Handles files one after another. After one that fails, others still follow."""
 
 from __future__ import annotations
 
 from functools import partial
 
 from ansible_vault_companions import exit_status, output
-from ansible_vault_companions.alias.command_line import DECRYPT, ENCRYPT, NAME, REKEY, VIEW
+from ansible_vault_companions.alias.command_line import DECRYPT, ENCRYPT, NAME, REKEY, STANDARD_INPUT, VIEW
 from ansible_vault_companions.alias.output_file import write_output
 from ansible_vault_companions.alias.password_choice import Call
+from ansible_vault_companions.alias.standard_input import read_standard_input
 from ansible_vault_companions.envelopes.pointers import refuse_pointer
 from ansible_vault_companions.files import link_bounds, reading, replacing
-from ansible_vault_companions.refusals import Refused
 from ansible_vault_companions.tool import Tool
 
 
 def handle_files(companion: str, call: Call) -> int:
     """Replaces or shows each file. Returns the exit status."""
-    files, paths = Files(Tool(companion), call), call.args.arguments
+    files, paths = Files(Tool(companion), call), call.args.arguments or [STANDARD_INPUT]
     statuses: list[int] = []
     with output.Progress(lambda: f"file {len(statuses) + 1:,} of {len(paths):,}") as progress:
         for path in paths:
@@ -36,41 +36,36 @@ class Files:
         # A newline if the last text that was shown does not end with one.
         self.end = b""
 
-    def handle(self, path: str) -> None:
-        is_shown = self.call.args.command == VIEW
-        target = link_bounds.resolve_to_read(path) if is_shown else link_bounds.resolve_file(path)
-        before = reading.read_existing(target)
-        after = self.run(before)
-        if is_shown:
-            output.write_data(self.end + after)
-            self.end = b"\n" if after and not after.endswith(b"\n") else b""
+    def handle(self, path: str) -> int:
+        """Handles a file, or standard input, and returns the exit status."""
+        args = self.call.args
+        if args.command == VIEW:
+            self._show(self._run(_read(path)))
+        elif path == STANDARD_INPUT or args.output is not None:
+            return write_output(args, self._run(_read(path)))
         else:
-            replacing.replace(target, after, before, is_private=self.call.args.command == DECRYPT)
+            target = link_bounds.resolve_file(path)
+            before = reading.read_existing(target)
+            replacing.replace(target, self._run(before), before, is_private=args.command == DECRYPT)
+        return 0
 
-    def run(self, data: bytes) -> bytes:
+    def _show(self, text: bytes) -> None:
+        output.write_data(self.end + text)
+        self.end = b"\n" if text and not text.endswith(b"\n") else b""
+
+    def _run(self, data: bytes) -> bytes:
+        """What the command makes of this. A vault keeps its text if its label forbids the one password that opens it
+        to encrypt it again."""
         refuse_pointer(data)
-        call = self.call
-        try:
-            return self.tool.run(call.words("--output"), data, [*call.passwords, *call.new], call.new_label)
-        except Refused as fault:
-            # Other statuses say nothing of the vault.
-            if fault.status == 1 and call.args.command != ENCRYPT:
-                self._explain(data)
-            raise
-
-    def _explain(self, vault: bytes) -> None:
-        """Raises Refused with what the tool does not say: what was tried, that the vault is damaged, or that the label
-        alone is the reason."""
-        try:
-            decrypted = self.tool.decrypt(vault, self.call.passwords, self.call.policy)
-            if self.call.args.command == REKEY:
-                decrypted.require_label()
-        except Refused as reason:
-            # It takes the place of the tool's message.
-            raise reason from None
+        call, passwords = self.call, self.call.passwords
+        if call.args.command != ENCRYPT:
+            decrypted = self.tool.decrypt(data, passwords, call.policy)
+            if call.args.command != REKEY:
+                return decrypted.text
+            decrypted.require_label()
+            passwords = [decrypted.password]
+        return self.tool.run(call.words(passwords, "--output"), data, [*passwords, *call.new], call.new_label)
 
 
-def run_to_output(companion: str, call: Call, reads_input: bool) -> int:
-    """Shows, decrypts or rekeys standard input, or a file whose new content goes elsewhere."""
-    vault = reading.read_input(0 if reads_input else call.args.arguments[0])
-    return write_output(call.args, Files(Tool(companion), call).run(vault))
+def _read(path: str) -> bytes:
+    return read_standard_input() if path == STANDARD_INPUT else reading.read_input(link_bounds.resolve_to_read(path))

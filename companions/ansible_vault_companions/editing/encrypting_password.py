@@ -1,8 +1,8 @@
 """Chooses the password that encrypts what an edit writes.
 
 A text that may change keeps the password that decrypted it, if its label allows that. Something new gets the one that
-the user has chosen; else that of the file's values, if they all have one; else the only one. If that leaves several,
-the user chooses now.
+the user has chosen; else that of the file's values, if they all have one; else the only one. Unless its label is
+chosen, none of the settings takes the place of one that an option names. If that leaves several, the user chooses now.
 """
 
 from __future__ import annotations
@@ -12,7 +12,7 @@ from contextlib import suppress
 from typing import NamedTuple
 
 from ansible_vault_companions.passwords import prompts
-from ansible_vault_companions.passwords.labels import NONE_HAS_LABEL, choose_to_encrypt
+from ansible_vault_companions.passwords.labels import choose_to_encrypt, describe_labels, prefer_options
 from ansible_vault_companions.passwords.password import Password
 from ansible_vault_companions.quoting import escape
 from ansible_vault_companions.refusals import Refused
@@ -37,35 +37,43 @@ class Choice(NamedTuple):
     label: str | None
     key_of_values: Key | None = None
 
-    def find_key(self, none: str = NONE_HAS_LABEL) -> Key | None:
+    @property
+    def candidates(self) -> list[Password]:
+        """Those for something new if no label is chosen."""
+        return prefer_options(self.passwords)
+
+    def find_key(self, where: str = "") -> Key | None:
         """The key of something new; None if there are several passwords and nobody has chosen one. Refuses a chosen one
-        that cannot be used, with the text `none` if there is none."""
-        if self.label is None and self.key_of_values:
-            return self.key_of_values
-        is_only = self.label is None and len(self.passwords) == 1
-        label = self.passwords[0].label if is_only else self.label
-        return None if label is None else Key(choose_to_encrypt(self.passwords, label, none), label)
+        that cannot be used."""
+        of_values = self.key_of_values
+        if self.label is None and of_values and of_values.password.content in {each.content for each in self.candidates}:
+            return of_values
+        if self.label is None and len(self.candidates) > 1:
+            return None
+        password = choose_to_encrypt(self.passwords, self.label, where)
+        return Key(password, password.label)
 
     def list_keys(self) -> list[Key]:
         """The keys that something new may get; none if the chosen one cannot be used."""
         with suppress(Refused):
             key = self.find_key()
-            return [key] if key else [Key(password, password.label) for password in self.passwords]
+            return [key] if key else [Key(password, password.label) for password in self.candidates]
         return []
 
     def choose_key(self, name: str, place: str) -> Key:
         """The key for what has this name and place."""
-        key = self.find_key(f"{place} is new, and {NONE_HAS_LABEL}") or self._ask(name, place)
+        key = self.find_key(f"{place} is new, and ") or self._ask(name, place)
         key.password.confirm()
         return key
 
     def _ask(self, name: str, place: str) -> Key:
         """The key with the label that the user chooses at a terminal."""
-        labels = [*dict.fromkeys(password.label for password in self.passwords)]
+        labels = [*dict.fromkeys(password.label for password in self.candidates)]
         if len(labels) == 1 or not os.isatty(0):
-            raise Refused(f"{place} is new; choose its password with --encrypt-vault-id")
+            has = describe_labels(self.candidates)
+            raise Refused(f"{place} is new; choose its password with --encrypt-vault-id: {has}")
         label = prompts.ask_choice(f"Label to encrypt {name} with", labels)
-        return Key(choose_to_encrypt(self.passwords, label), label)
+        return Key(choose_to_encrypt(self.candidates, label), label)
 
     def describe(self) -> str:
         """What a new value gets."""

@@ -2,7 +2,8 @@
 
 A label is a hint, not a proof: anybody can change it, or copy an envelope, without a password. So if several passwords
 are given, all are tried, but only one with the envelope's label may encrypt its text again, or the text would get the
-password that belongs to another label. With one password, no other can be meant.
+password that belongs to another label. With one password, or one that is the only one of the options, no other can be
+meant.
 """
 
 from __future__ import annotations
@@ -18,36 +19,50 @@ from ansible_vault_companions.refusals import Refused
 
 ANY_LABEL = "--any-label"
 RELABEL = f"ansible-vault-rotate {ANY_LABEL}"
-NONE_HAS_LABEL = "no secret has the label of --encrypt-vault-id"
+NONE_HAS_LABEL = "no password has the label {}, only {}"
+SEVERAL = "several passwords could encrypt: {}; choose one with --encrypt-vault-id"
 
 
 class Policy:
     """What labels mean to the passwords of a command line."""
 
-    def __init__(self, requires_match: bool, any_label: bool, usual_label: str | None, switched_off: str = "") -> None:
+    def __init__(
+        self, requires_match: bool, any_label: bool, usual_label: str | None = None, only: bytes | None = None
+    ) -> None:
         # Whether a password may decrypt only envelopes with its label.
         self.requires_match = requires_match
-        # Whether a password may encrypt again what has another label.
+        # Whether any password may encrypt again what has another label; and the only one that may, if there is one.
         self.any_label = any_label
+        self.only = only
         # The label that the settings choose for encryption.
         self.usual_label = usual_label
-        # What a message adds if no password fits: that options have switched off settings, if they have.
-        self.switched_off = switched_off
 
 
 # For what is not decrypted.
-ANY = Policy(requires_match=False, any_label=True, usual_label=None)
+ANY = Policy(requires_match=False, any_label=True)
 
 
 def make_policy(
     passwords: Iterable[Password], settings: Settings, any_label: bool, requires_match: bool = False
 ) -> Policy:
     """The policy for these passwords. Passwords that are all the same count as one, and options count more than the
-    settings."""
-    are_one = len({password.content for password in passwords}) == 1
-    requires_match = requires_match or settings.requires_match() and not any_label
-    switched_off = settings.describe_switched_off()
-    return Policy(requires_match, any_label or are_one, settings.find_encrypt_label(), switched_off)
+    settings: these choose no password in place of one that an option names."""
+    named = prefer_options(passwords)
+    contents = {password.content for password in named}
+    label = settings.find_encrypt_label()
+    is_free = all(password.source.is_setting for password in named)
+    return Policy(
+        requires_match or settings.requires_match() and not any_label,
+        any_label,
+        label if is_free or label and list_with_label(named, label) else None,
+        contents.pop() if len(contents) == 1 else None,
+    )
+
+
+def prefer_options(passwords: Iterable[Password]) -> list[Password]:
+    """Those that options name, or else all."""
+    every = list(passwords)
+    return [password for password in every if not password.source.is_setting] or every
 
 
 def order_to_try(passwords: Iterable[Password], label: str | None, policy: Policy) -> list[Password]:
@@ -63,18 +78,25 @@ def list_with_label(passwords: Iterable[Password], label: str) -> list[Password]
     return [password for password in passwords if password.label == label]
 
 
-def choose_to_encrypt(passwords: Iterable[Password], label: str, none: str = NONE_HAS_LABEL) -> Password:
-    """The password that a label chooses to encrypt with. Raises Refused if it cannot be used, since no other encrypts
-    in its place; if another one has the label, too; and, with the text `none`, if no password has it."""
-    chosen = list_with_label(passwords, label)
-    if not chosen:
-        raise Refused(none)
+def choose_to_encrypt(passwords: Sequence[Password], label: str | None, where: str = "") -> Password:
+    """The password to encrypt with: the one with this label, or else the only one. One that an option names goes before
+    those of the settings. Raises Refused if it cannot be used, since no other encrypts in its place; if several are
+    left; or if none has the label."""
+    chosen = prefer_options(list_with_label(passwords, label) if label else passwords)
+    if label and not chosen:
+        raise Refused(f"{where}{NONE_HAS_LABEL.format(escape(label), describe_labels(passwords))}")
+    if not label and len(chosen) > 1:
+        raise Refused(SEVERAL.format(describe_labels(chosen)))
     for password in chosen:
         password.require_usable()
     if len({password.content for password in chosen}) > 1:
         names = " and ".join(escape(password.source.text) for password in chosen)
-        raise Refused(f"{names} have the label {escape(label)}; name only the password to encrypt with")
+        raise Refused(f"{names} have the label {escape(chosen[0].label)}; name only the password to encrypt with")
     return chosen[0]
+
+
+def describe_labels(passwords: Iterable[Password]) -> str:
+    return ", ".join(escape(password.label) for password in passwords)
 
 
 def require_label(password: Password, label: str, policy: Policy, where: str = "") -> None:
@@ -83,7 +105,7 @@ def require_label(password: Password, label: str, policy: Policy, where: str = "
     if "@" in label:
         why = f"has an @, so no option can name it; give it another one with `{RELABEL}`"
         raise Refused(f"{where}its label {escape(label)} {why}")
-    if label != password.label and not policy.any_label:
+    if label != password.label and not policy.any_label and password.content != policy.only:
         raise Refused(
             f"{where}its label is {escape(label)}{_explain_default(label)}, but {escape(password.source.text)}, a "
             f"password with the label {own}, decrypts it; unless somebody changed the label or copied the text here, "
@@ -100,7 +122,7 @@ def describe_attempts(label: str | None, passwords: Sequence[Password], policy: 
     names = ", ".join(escape(password.source.text) for password in passwords) or "none: no password has its label"
     has = f"label {escape(label)}" if label else "no label"
     others = "; --require-id-match or vault_id_match forbids the others" if policy.requires_match else ""
-    return f"({has}; tried {names}{others}): name its password with --vault-id LABEL@SOURCE{policy.switched_off}"
+    return f"({has}; tried {names}{others}): name its password with --vault-id LABEL@SOURCE"
 
 
 def is_allowed(label: str) -> bool:

@@ -21,8 +21,7 @@ from ansible_vault_companions.passwords.sources import (
 )
 from ansible_vault_companions.refusals import Refused
 
-# Of the alias, for an edit: if nothing names a password, it asks for one. The option for a user would itself name a
-# password, and so switch off ./ansible.cfg, in which the label to encrypt with may be.
+# Of the alias, for an edit: if nothing names a password, it asks for one. The option for a user always asks.
 ASK_IF_NONE = "--ask-if-none-is-named"
 NO_PASSWORD = (
     "no password is given: name one with --vault-id or --vault-password-file, in ANSIBLE_VAULT_PASSWORD_FILE or "
@@ -80,29 +79,26 @@ def load_named(
     skips: bool = False,
     parser: argparse.ArgumentParser | None = None,
 ) -> tuple[list[Password], Policy]:
-    """The passwords that options and settings name, in Ansible's order, and what labels mean to them. The parser is for
-    a command line that is invalid if nothing names one."""
+    """The passwords that options and settings name, and what labels mean to them. The parser is for a command line that
+    is invalid if nothing names one."""
     settings = read_settings(args, lambda text: write_error(f"{companion}: {text}"))
     sources = list_sources(args.vault_id, args.vault_password_file, settings)
     if sources:
         passwords = loading.read_passwords(companion, sources, asking, skips, args.for_git)
     else:
-        passwords = [_ask_or_refuse(args, asking, settings, parser)]
+        passwords = [_ask_or_refuse(args, asking, parser)]
     requires_match = getattr(args, "require_id_match", False)
     return passwords, make_policy(passwords, settings, args.any_label, requires_match)
 
 
-def _ask_or_refuse(
-    args: argparse.Namespace, asking: Asking, settings: Settings, parser: argparse.ArgumentParser | None
-) -> Password:
+def _ask_or_refuse(args: argparse.Namespace, asking: Asking, parser: argparse.ArgumentParser | None) -> Password:
     """The password that the user types, if a companion asks for it. Otherwise, the command line is invalid or, without
     a parser, Refused is raised."""
-    why = NO_PASSWORD + settings.describe_switched_off()
     if args.asks_if_none:
-        return loading.load_typed_password(asking, why)
+        return loading.load_typed_password(asking, NO_PASSWORD)
     if parser:
-        parser.error(why)
-    raise Refused(why)
+        parser.error(NO_PASSWORD)
+    raise Refused(NO_PASSWORD)
 
 
 def load_new_passwords(args: argparse.Namespace, reads_lines: bool = False) -> list[Password]:
@@ -128,7 +124,7 @@ def repeat_options(args: argparse.Namespace) -> list[str]:
 
 
 def read_settings(args: argparse.Namespace, warn: Callable[[str], None]) -> Settings:
-    """The settings that apply along with these options."""
-    old = args.vault_id or args.vault_password_file
-    new = args.new_vault_id or args.new_vault_password_file
-    return Settings(beside_options=bool(old or new), warn=warn)
+    """The settings that apply along with these options. What git runs reads none beside an option that names a password,
+    so a repository cannot name one."""
+    is_named = args.vault_id or args.vault_password_file
+    return Settings(warn, are_read=not (args.for_git and is_named))

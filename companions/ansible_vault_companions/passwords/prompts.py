@@ -19,6 +19,7 @@ from ansible_vault_companions.refusals import Refused
 
 NO_TERMINAL = "there is no terminal on which to ask for"
 FOR_DATA = ", and standard input is for data"
+NO_LINE = ", and standard input has no line for `{}`"
 # What is said of each kind of question if nobody answers it.
 NO_PASSWORD = f"{NO_TERMINAL} the password{{}}; name a password file"
 NO_STRING = f"{NO_TERMINAL} the string{{}}; give it as STRING"
@@ -142,7 +143,7 @@ def _read_input_line(question: str, unanswered: str) -> bytes:
             # It is closed.
             text = b""
     if not text:
-        raise NoAnswer(unanswered.format(""))
+        raise NoAnswer(unanswered.format(NO_LINE.format(question.strip(" :"))))
     return text.removesuffix(b"\n")
 
 

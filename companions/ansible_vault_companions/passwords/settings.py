@@ -1,9 +1,7 @@
 """Ansible's settings that name passwords: environment variables and `ansible.cfg`.
 
-The current directory may be a stranger's, and a password file may be a script. So beside an option that names a
-password or asks for one (`-J`), a path in the settings counts only if it does not start from the current directory.
-./ansible.cfg is such a path. It may also lead to a file of another kind, even to a password. So a link out of its
-repository is refused, and no message quotes a file of settings.
+They count beside options, too. ./ansible.cfg may be a link to a file of another kind, even to a password. So one that
+leads out of its repository is refused, and no message quotes a file of settings.
 """
 
 from __future__ import annotations
@@ -34,20 +32,11 @@ CURRENT = "{{CWD}}"
 NO_HOME = "~ leads to no home directory; to mean a file of this name, begin with ./"
 # Values that Ansible reads as true.
 TRUE = ("1", "on", "t", "true", "y", "yes")
-RELATIVE = (
-    "beside options, a path in the settings counts only if it begins with / or a home directory's ~; it is ignored"
-)
-# For a message if no password fits.
-SWITCHED_OFF = (
-    '; ./ansible.cfg is ignored beside options that name a password, unless you set ANSIBLE_CONFIG="$PWD/ansible.cfg"'
-)
 
 
-def is_absolute(place: str, folder: str = "") -> bool:
-    """Whether a path leads to the same place, whatever the current directory is, which a variable may name. A relative
-    path starts from `folder`."""
-    path = os.path.expanduser(place)
-    return os.path.isabs(path) or os.path.isabs(folder) and not path.startswith((HOME, "$", CURRENT))
+def is_absolute(place: str) -> bool:
+    """Whether a path leads to the same place, whatever the current directory is, which a variable may name."""
+    return os.path.isabs(os.path.expanduser(place))
 
 
 def expand_path(path: str, folder: str = "") -> str:
@@ -66,25 +55,25 @@ def split_vault_id(text: str) -> tuple[str, str]:
 
 
 class Settings:
-    """The values of the settings. An environment variable overrides the file, even if it is empty."""
+    """The values of the settings, or none if they are not to be read. An environment variable overrides the file, even
+    if it is empty."""
 
-    def __init__(self, beside_options: bool, warn: Callable[[str], None]) -> None:
-        self.beside_options = beside_options
+    def __init__(self, warn: Callable[[str], None], are_read: bool = True) -> None:
         self.warn = warn
-        self.path = self._find_file()
+        self.are_read = are_read
+        self.path = self._find_file() if are_read else None
         self.keys = _read_section(self.path) if self.path else {}
 
     def list_identities(self) -> list[str]:
         """The sources, as [LABEL@]SOURCE. As with Ansible, relative paths start from the current directory."""
         items = [_unquote(item.strip()) for item in self._read(IDENTITIES).split(",")]
-        return [item for item in items if item and self._may_count(split_vault_id(item)[1] or item)]
+        return [item for item in items if item]
 
     def find_password_file(self) -> str:
         """The path of the password file; empty if there is none. In a file, it is relative to the file's directory."""
         path = self._read(PASSWORD_FILE)
         folder = "" if PASSWORD_FILE[0] in os.environ or not self.path else os.path.dirname(self.path)
-        counts = path and self._may_count(path, folder)
-        return _expand_setting(path.replace(CURRENT, link_bounds.find_current_folder()), folder) if counts else ""
+        return _expand_setting(path.replace(CURRENT, link_bounds.find_current_folder()), folder) if path else ""
 
     def is_asking(self) -> bool:
         """Whether to ask for a password."""
@@ -98,30 +87,18 @@ class Settings:
         """Whether a password may decrypt only its own label. As with Ansible, any value means yes, even `false`."""
         return bool(_unquote(self._read(ID_MATCH)))
 
-    def describe_switched_off(self) -> str:
-        """For a message: that options have switched off ./ansible.cfg, if that is so, and how to use it anyway."""
-        is_off = self.beside_options and not os.environ.get(CONFIG) and _is_readable(NAME)
-        return SWITCHED_OFF if is_off else ""
-
     def is_of_folder(self, setting: tuple[str, str]) -> bool:
         """Whether ./ansible.cfg has the value of a setting, which a stranger may have committed."""
         return self.path == NAME and setting[0] not in os.environ
 
     def _read(self, setting: tuple[str, str]) -> str:
         variable, key = setting
-        return os.environ.get(variable, self.keys.get(key, ""))
-
-    def _may_count(self, place: str, folder: str = "") -> bool:
-        """Whether a path counts. A relative one starts from `folder`."""
-        counts = not self.beside_options or place in (PROMPT, ASK) or is_absolute(place, folder)
-        if not counts:
-            self.warn(f"{escape(place)}: {RELATIVE}")
-        return counts
+        return os.environ.get(variable, self.keys.get(key, "")) if self.are_read else ""
 
     def _find_file(self) -> str | None:
         """The file that ANSIBLE_CONFIG names, else the first readable one, in Ansible's order of places."""
         named = os.environ.get(CONFIG, "")
-        if named and self._may_count(named):
+        if named:
             path = _expand_setting(named)
             if os.path.isdir(path):
                 path = os.path.join(path, NAME)
@@ -130,7 +107,7 @@ class Settings:
                 return path
             self.warn(f"{CONFIG}: {escape(path)} cannot be read; it is ignored")
         places = [os.path.expanduser(place) for place in USUAL_PLACES if is_absolute(place)]
-        if not self.beside_options and os.path.exists(NAME):
+        if os.path.exists(NAME):
             if os.stat(".").st_mode & stat.S_IWOTH:
                 self.warn(f"{escape(os.path.abspath(NAME))} is ignored, since its directory is world-writable")
             else:

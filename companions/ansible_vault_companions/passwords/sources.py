@@ -1,5 +1,4 @@
-"""Where passwords come from, and how they are asked for: what the command line or Ansible's settings name, in Ansible's
-order."""
+"""Where passwords come from, and how they are asked for: what the command line and Ansible's settings name."""
 
 from __future__ import annotations
 
@@ -60,16 +59,17 @@ def make_path_source(path: str, is_setting: bool = False, is_of_folder: bool = F
 
 
 def list_sources(ids: list[str], paths: list[str], settings: Settings) -> list[Source]:
-    """All sources that options and settings name, in Ansible's order."""
-    is_of_folder = settings.is_of_folder(IDENTITIES)
-    sources = [parse_vault_id(text, True, is_of_folder) for text in settings.list_identities()]
-    sources += [parse_vault_id(text) for text in ids if text != ASK_ID]
+    """All sources that options name and, after them, those that settings name."""
+    sources = [parse_vault_id(text) for text in ids if text != ASK_ID]
     sources += [make_path_source(path) for path in paths]
+    sources += [parse_vault_id(ASK_ID)] if ASK_ID in ids else []
+    is_of_folder = settings.is_of_folder(IDENTITIES)
+    sources += [parse_vault_id(text, True, is_of_folder) for text in settings.list_identities()]
     path = settings.find_password_file()
     if path:
         sources.append(make_path_source(path, True, settings.is_of_folder(PASSWORD_FILE)))
-    if ASK_ID in ids or settings.is_asking():
-        sources.append(parse_vault_id(ASK_ID))
+    if settings.is_asking() and ASK_ID not in ids:
+        sources.append(parse_vault_id(ASK_ID, is_setting=True))
     if len(sources) > MOST_PASSWORDS:
         raise Refused(f"{len(sources)} passwords are named, and ansible-vault takes at most {MOST_PASSWORDS}")
     return sources
