@@ -71,13 +71,13 @@ def list_fitting(passwords: Passwords, vault: Labelled) -> list[str]:
 
 
 def outcome_of(passwords: Passwords, vault: Labelled) -> str:
-    """Return what becomes of a vault by the rule: a single password encrypts whatever it decrypts; of several, each
-    encrypts only what has its label."""
+    """Return what becomes of a vault by the rule: a single password, or the only one of the options, encrypts whatever it
+    decrypts; of several, each encrypts only what has its label."""
     fitting = list_fitting(passwords, vault)
     if not fitting:
         return CLOSED
-    is_single = len({each.password for each in passwords.every()}) == 1
-    if is_single or vault.needed_label() in fitting:
+    is_only = {each.password for each in passwords.options or passwords.settings} == {vault.password}
+    if is_only or vault.needed_label() in fitting:
         return ENCRYPTED
     return MISLABELLED
 

@@ -121,7 +121,7 @@ def test_chosen_secret(place: Place) -> None:
     vaults = [sealed(name, text, name) for name, text in zip(("dev", "dev", "prod"), (BASE, OURS, THEIRS))]
     words = [*secrets, *versions(place, "a.yml", *vaults)]
     done = place.run(MERGE, "--encrypt-vault-id", "x", *words)
-    ended("no label", done, CONFLICT, "no secret has the label of --encrypt")
+    ended("no label", done, CONFLICT, "no password has the label x, only dev, prod, prod")
     place.put("a.yml", vaults[1])
     # Without the second one of the label.
     silent("prod", place.run(MERGE, "--encrypt-vault-id", "prod", *secrets[:4], *versions(place, "a.yml", *vaults)))

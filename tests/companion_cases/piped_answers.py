@@ -63,6 +63,7 @@ def run(place: Place, data: bytes | None, line: str) -> subprocess.CompletedProc
 NO_PASSWORD = "there is no terminal on which to ask for the password"
 FOR_DATA = f"{NO_PASSWORD}, and standard input is for data; name a password file\n"
 NO_STRING = "there is no terminal on which to ask for the string"
+NO_LINE = ", and standard input has no line for `{}`; name a password file\n"
 # Command lines that have another use for standard input.
 DATA = {
     f"{WITH} encrypt -J": FOR_DATA,
@@ -95,14 +96,20 @@ def test_data(place: Place, line: str) -> None:
 
 # Standard inputs that do not answer, and a command line.
 NOTHING = [
-    (f"{WITH} view -J a.yml < /dev/null", f"{WITH}: --ask-vault-password: {NO_PASSWORD}; name a password file\n"),
-    (f"{WITH} view -J a.yml <&-", f"{WITH}: --ask-vault-password: {NO_PASSWORD}; name a password file\n"),
+    (
+        f"{WITH} view -J a.yml < /dev/null",
+        f"{WITH}: --ask-vault-password: {NO_PASSWORD}{NO_LINE.format('Vault password')}",
+    ),
+    (f"{WITH} view -J a.yml <&-", f"{WITH}: --ask-vault-password: {NO_PASSWORD}{NO_LINE.format('Vault password')}"),
     (f"{WITH} view a.yml <&-", f"{WITH}: no password is given: name one with"),
     (f"echo | {WITH} view -J a.yml", "you typed an empty password"),
     (f"printf 'x\\ny\\n' | {WITH} encrypt -J plain.yml", "the two passwords differ"),
-    (f"printf 'x\\n' | {WITH} encrypt -J plain.yml", NO_PASSWORD),
+    (f"printf 'x\\n' | {WITH} encrypt -J plain.yml", NO_LINE.format("Confirm New Vault password")),
     (f"printf '\\377\\n' | {WITH} view -J a.yml", "not valid UTF-8"),
-    (f"{WITH} encrypt_string --vault-id ../secrets/old -p < /dev/null", f"{WITH}: {NO_STRING}; give it as STRING\n"),
+    (
+        f"{WITH} encrypt_string --vault-id ../secrets/old -p < /dev/null",
+        f"{WITH}: {NO_STRING}, and standard input has no line for ",
+    ),
 ]
 
 

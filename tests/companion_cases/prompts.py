@@ -50,20 +50,20 @@ def test_how_often(place: Place) -> None:
 
 
 def test_order(place: Place) -> None:
-    """Passwords are tried in this order: those of the settings' list, of both options, of the settings' file, and the
-    one of -J, wherever that is among the options."""
+    """Passwords are tried in this order: those of both options, the one of -J, wherever that is among them, and those of
+    the settings' list and file."""
     place.put("a.yml", sealed("dev2"))
     settings = {"ANSIBLE_VAULT_IDENTITY_LIST": f"{place.secret('dev')}, {place.secret('prod')}"}
     settings["ANSIBLE_VAULT_PASSWORD_FILE"] = place.secret("prod2")
     words = [CHECK, "-J", *place.by_file("old"), *place.by_id("default", "new"), "a.yml"]
     session = ask(place, *words, answers=typed("old", ASKED), **settings)
-    tried = [place.secret("dev"), place.secret("prod"), f"default@{place.secret('new')}", place.secret("old")]
-    tried += [place.secret("prod2"), "--ask-vault-password"]
+    tried = [f"default@{place.secret('new')}", place.secret("old"), "--ask-vault-password"]
+    tried += [place.secret("dev"), place.secret("prod"), place.secret("prod2")]
     assert f"; tried {', '.join(tried)})" in session.stderr, session
 
 
 def test_settings_beside_options(place: Place) -> None:
-    """A prompt that the settings name leads to no file of a stranger, so it counts beside options."""
+    """A prompt that the settings name counts beside options."""
     place.put("a.yml", sealed("dev", label="dev"))
     for words in ([CHECK], [WITH, "view"]):
         answers, variables = typed("dev", OF_DEV), {"ANSIBLE_VAULT_IDENTITY_LIST": "dev@prompt"}
@@ -121,18 +121,14 @@ def test_only_password(place: Place, words: list[str]) -> None:
 
 
 @pytest.mark.parametrize("line", ("encrypt plain.yml", "create new.yml", "edit values.yml"))
-def test_label_of_the_settings(place: Place, line: str) -> None:
-    """If nothing names a password, all settings count. The password that is typed has the label `default`."""
-    place.put("ansible.cfg", b"[defaults]\nvault_encrypt_identity = prod\n")
+@pytest.mark.parametrize("label", (b"default", b"prod"))
+def test_label_of_the_settings(place: Place, line: str, label: bytes) -> None:
+    """The password that is typed has the label `default`, and encrypts, whatever label the settings choose."""
+    place.put("ansible.cfg", b"[defaults]\nvault_encrypt_identity = %s\n" % label)
     place.put("plain.yml", TEXT)
     place.put("values.yml", NEW_VALUE)
-    before, editor = place.files(), place.script('test -s "$1" || echo text > "$1"', "editor")
+    editor = place.script('test -s "$1" || echo text > "$1"', "editor")
     answers = typed("dev", ASKED if "edit" in line else "New Vault password: ", AGAIN)
-    refused = answers[:1] if "edit" in line else answers
-    session = ask(place, WITH, *line.split(), answers=refused, EDITOR=editor)
-    why = "no secret has the label of --encrypt-vault-id"
-    assert (session.returncode, why in session.stderr, place.files()) == (1, True, before), session
-    place.put("ansible.cfg", b"[defaults]\nvault_encrypt_identity = default\n")
     session = ask(place, WITH, *line.split(), answers=answers, EDITOR=editor)
     header, found = described(place.get(line.split()[1]))
     assert (session.returncode, header, found and found[0]) == (0, b"$ANSIBLE_VAULT;1.1;AES256", "dev"), session
@@ -253,7 +249,8 @@ def test_label_of_a_new_vault(place: Place) -> None:
     words = [*READING, EDIT, *place.by_id("prod", "dev"), *place.by_id("prod", "prod"), "other.yml"]
     session = ask(place, *words, answers=[("", b"\x04")], EDITOR="touch started")
     assert session.returncode == 1, session
-    assert session.stderr == f"{EDIT}: other.yml: the vault is new; choose its password with --encrypt-vault-id\n"
+    why = "the vault is new; choose its password with --encrypt-vault-id: prod, prod"
+    assert session.stderr == f"{EDIT}: other.yml: {why}\n"
     assert place.names() == ["new.yml"], "no editor is started, and no other vault is made"
 
 

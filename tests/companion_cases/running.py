@@ -12,7 +12,7 @@ from lib.needs import needs
 SAME = """
     view - < a.yml
     view --require-id-match a.yml
-    view new.yml
+    view < new.yml
     view --vault-password-file <(cat ../secrets/dev) a.yml
     view --vault-password-file prompt new.yml
     view <&-
@@ -63,7 +63,7 @@ STRINGS, REKEY = f"encrypt_string {DEV}", "rekey --vault-id prod@../secrets/old 
 BOTH = f"{OLD} --new-vault-password-file ../secrets/new"
 SALT_FOR_ONE = "--salt and --salt-file are for a single FILE or STRING"
 NOT_NAMED = "there are more names than STRINGs; --stdin-name is the name of standard input"
-NOT_NEW = "no new password has the label that was chosen for encryption, prod"
+NO_NEW = f"{WITH}: no new password is given: name one with --new-vault-id or "
 
 
 class Refusal(NamedTuple):
@@ -76,7 +76,7 @@ class Refusal(NamedTuple):
 
 REFUSED = [
     Refusal(line=OLD, status=2, part="no command is given"),
-    Refusal(line=f"view {OLD} $'a\\nline.yml'", status=3, part=f"{WITH}: 'a\\nline.yml': No such file or directory\n"),
+    Refusal(line=f"view {OLD} $'a\\nline.yml'", status=1, part=f"{WITH}: 'a\\nline.yml': No such file or directory\n"),
     Refusal(line=f"encrypt {OLD} --salt-file /dev/zero plain.yml plain.yml", status=2, part=SALT_FOR_ONE),
     Refusal(line=f"{STRINGS} a --stdin-name x --salt salt", status=2, part=SALT_FOR_ONE),
     Refusal(line=f"{STRINGS} a --prompt --salt-file ../secrets/old", status=2, part=SALT_FOR_ONE),
@@ -85,12 +85,19 @@ REFUSED = [
     Refusal(line=f"{STRINGS} --name x - < plain.yml", status=2, part=NOT_NAMED),
     Refusal(line=f"{STRINGS} a --name x --name y", status=2, part=NOT_NAMED),
     Refusal(line=f"{STRINGS} --prompt --name x --name y", status=2, part=NOT_NAMED),
+    Refusal(line=f"{STRINGS} a b --encrypt-vault-id prod", status=1, part="no password has the label prod, only dev"),
     Refusal(
-        line=f"{STRINGS} a b --encrypt-vault-id prod", status=1, part="no secret has the label of --encrypt-vault-id"
+        line=f"encrypt {OLD} {DEV} plain.yml",
+        status=1,
+        part="several passwords could encrypt: dev, default; choose one with --encrypt-vault-id",
     ),
     # The old secret is not taken for the new one, even if it has the label that was chosen.
-    Refusal(line=REKEY, status=1, part=NOT_NEW),
-    Refusal(line=f"{REKEY} --new-vault-id dev@../secrets/new", status=1, part=NOT_NEW),
+    Refusal(line=REKEY, status=1, part=NO_NEW),
+    Refusal(
+        line=f"{REKEY} --new-vault-id dev@../secrets/new",
+        status=1,
+        part="of the new passwords, no password has the label prod, only dev",
+    ),
     Refusal(
         line=f"rekey {OLD} --new-vault-id x@y --new-vault-password-file z a.yml",
         status=2,
@@ -119,9 +126,12 @@ REFUSED = [
         status=1,
         part=f"{WITH}: no password is given: name one with --vault-id or --vault-password-file, in ",
     ),
-    Refusal(
-        line=f"rekey {OLD} a.yml", status=1, part=f"{WITH}: no new password is given: name one with --new-vault-id or "
-    ),
+    Refusal(line=f"rekey {OLD} a.yml", status=1, part=NO_NEW),
+    # A single file is named, too.
+    Refusal(line=f"view {OLD} new.yml", status=1, part=f"{WITH}: new.yml: no secret decrypts this vault (label "),
+    Refusal(line=f"view {OLD} plain.yml", status=1, part=f"{WITH}: plain.yml: input is not vault encrypted data"),
+    Refusal(line=f"decrypt {OLD} --output - plain.yml", status=1, part=f"{WITH}: plain.yml: input is not vault "),
+    Refusal(line=f"encrypt {OLD} --output - a.yml", status=1, part=f"{WITH}: a.yml: the plaintext is already vault "),
     Refusal(line=f"create {OLD} a.yml", status=1, part="a.yml exists already; use `edit`"),
 ]
 

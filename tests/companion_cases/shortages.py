@@ -122,7 +122,7 @@ def test_memory_of_programs(place: Place) -> None:
     [limit] = limits["tool"]
     assert limit.isdecimal() and int(limit) << 10 <= memory.MOST, "another program"
     (place.path / "tool").unlink()
-    ended("a view", place.run(WITH, "view", *place.by_file("old"), "a.yml"), 0)
+    ended("a view", place.shell(f"{WITH} view --vault-password-file ../secrets/old < a.yml"), 0)
     assert {*(place.path / "tool").read_text().split()} == own, "what takes the place of a companion"
 
 
