@@ -150,6 +150,25 @@ def test_other_passwords(place: Place) -> None:
     assert decrypted("prod", place.get("a.yml")) == b"theirs\n"
 
 
+def test_values_of_other_passwords(place: Place) -> None:
+    """So does a new text of a value. One that is taken keeps its envelope, without a question."""
+    needs_pyyaml()
+    sides = [block("dev", b"ours", "dev"), block("prod", b"theirs", "prod")]
+    before = merge(place, [block("old", b"base"), *sides])
+    words = [*place.by_id("dev", "dev"), *place.by_id("prod", "prod"), "a.yml"]
+    both = f'{TAKE_THEIRS}; sed -i s/theirs/both/ "$1"'
+    for label in ("", "prod"):
+        done = edit(place, both, *words, ANSIBLE_VAULT_ENCRYPT_IDENTITY=label)
+        ended("unclear", done, 1, "secret has different passwords in the two sides; choose one with --encrypt-vault-id")
+        assert place.get("a.yml") == before, "the file stays"
+    done = edit(place, both, "--encrypt-vault-id", "prod", *words)
+    ended("it is chosen", done, 0, "encrypted secret (label prod)\n")
+    assert texts(place.get("a.yml"), "prod") == [b"both"]
+    place.put("a.yml", before)
+    ended("theirs", edit(place, TAKE_THEIRS, *words), 0)
+    assert place.get("a.yml") == sides[1], "it keeps its envelope"
+
+
 WITHOUT_BASE = ["git add a.yml", "git add a.yml; git config merge.conflictStyle diff3", "cp ../whole a.yml"]
 
 

@@ -21,6 +21,8 @@ from ansible_vault_companions.tool import Decryption, Key
 GETS = "new values get the label {}; --encrypt-vault-id chooses another"
 IS_ASKED = "the label of a new value will be asked for; --encrypt-vault-id chooses one"
 IS_REFUSED = "new values will be refused: {}"
+UNCLEAR = "{} may be new, changed or moved, and the password depends on which; save one change at a time"
+SIDES_DIFFER = "{} has different passwords in the two sides; choose one with --encrypt-vault-id"
 
 
 def keep_key(decrypted: Decryption, where: str = "") -> Key:
@@ -36,6 +38,8 @@ class Choice(NamedTuple):
     # The label that an option or a setting chooses; and the key of the file's values, if they all have one.
     label: str | None
     key_of_values: Key | None = None
+    # For a conflict: what the options alone choose. It is also for a text that has several passwords in the sides.
+    of_conflict: Choice | None = None
 
     @property
     def candidates(self) -> list[Password]:
@@ -65,6 +69,14 @@ class Choice(NamedTuple):
         key = self.find_key(f"{place} is new, and ") or self._ask(name, place)
         key.password.confirm()
         return key
+
+    def settle_key(self, name: str, place: str) -> Key:
+        """The key for what may be one of several texts with several passwords."""
+        if not self.of_conflict:
+            raise Refused(UNCLEAR.format(place))
+        if self.of_conflict.label is None:
+            raise Refused(SIDES_DIFFER.format(place))
+        return self.of_conflict.choose_key(name, place)
 
     def _ask(self, name: str, place: str) -> Key:
         """The key with the label that the user chooses at a terminal."""

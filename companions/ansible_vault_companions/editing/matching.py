@@ -13,10 +13,8 @@ from ansible_vault_companions.editing.encrypting_password import Choice
 from ansible_vault_companions.envelopes.key_paths import KeyPath
 from ansible_vault_companions.envelopes.node import Node
 from ansible_vault_companions.quoting import escape
-from ansible_vault_companions.refusals import Refused
 from ansible_vault_companions.tool import Decryption, Key
 
-UNCLEAR = "{} may be new, changed or moved, and the password depends on which; save one change at a time"
 Item = TypeVar("Item")
 
 
@@ -64,9 +62,11 @@ def find_matches(opened: list[DecryptedValue], typed: list[Node], choice: Choice
             matches.append(Match(kept[number]))
             continue
         keys = replacements.list_keys(value, choice)
+        names = describe_name(value), describe_place(value)
         if len(keys) > 1 or value.text in texts_gone:
-            raise Refused(UNCLEAR.format(describe_place(value)))
-        key = keys.pop() if keys else choice.choose_key(describe_name(value), describe_place(value))
+            key = choice.settle_key(*names)
+        else:
+            key = keys.pop() if keys else choice.choose_key(*names)
         matches.append(Match(None, key))
     return matches
 
