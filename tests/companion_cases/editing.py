@@ -216,6 +216,7 @@ MISREAD = {
     "b: !vault &c x\n": f"line 1: {CUT_SHORT}",
     "b: !vault x #y\n": f"line 1: {CUT_SHORT}",
     "b: !vault x\n  y # z\n": f"line 1: {CUT_SHORT}",
+    "b: !vault x\n              # y\n": "its values cannot be written where they are; write each as `NAME: !vault |`, with comments above it",
     "b: !vault # x\n  y\n": f"line 1: {CUT_SHORT}",
     "\ufeff%TAG ! !x\n---\nb: !vault x\n": "line 1: `%TAG` may make `!vault` another tag",
     "b: !vault $ANSIBLE_VAULT_TOKEN x\n": "line 1: b begins like a vault ($ANSIBLE_VAULT), but is not one",
@@ -281,12 +282,13 @@ def test_own_lines(place: Place, lines: str) -> None:
 
 
 def test_lost_tags(place: Place) -> None:
-    """A value that loses its tag is named, also if it gets another key. The others are not."""
+    """A value that loses its tag is named, also if it gets another key. The others are not. `typed_values.py` has more
+    of them."""
     blocks = [block("old", text, name=name) for text, name in ((b"one", "a"), (b"two", "b"), (b"x", "c"), (b"y", "d"))]
     place.put("vars.yml", b"".join(blocks) + b"e: one\n")
     change = r"s/^a: !vault/a:/; s/^b: !vault/B:/; s/^c: .*/c: '{{ other }}'/; /^  x/d; /^d:/,$ d"
     done = edit(place, f'sed -i "{change}" "$1"; echo \'e: one\' >> "$1"', *place.by_file("old"), "vars.yml")
-    names = "".join(f"{EDIT}: vars.yml: {name} is now plaintext\n" for name in "aBc")
+    names = "".join(f"{EDIT}: vars.yml: {name} is now plaintext\n" for name in ("a", "the old text of b", "c"))
     check_answer("the edit", done, errors=names)
 
 

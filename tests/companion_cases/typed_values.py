@@ -144,6 +144,7 @@ def test_typed_values(request: pytest.FixtureRequest) -> None:
 # What somebody may type for the tag, and lines with it.
 SLIPS = ["!Vault", "!VAULT", "! vault", "!  vault", "!!vault", "!vault:", "!<vault>", "!valut", "!vualt", "!vautl"]
 SLIPS += ["!avult", "!vaul", "!valt", "!vult", "!vaut", "!ault", "!vaullt", "!vauult", "!vvault", "!vaultt", "!vaults"]
+SLIPS += ["1!vault", "_!vault", "\xa0!vault", "!\xa0vault"]
 SLIPS += ["!vsult", "!vauly", "!bault", "!vaulthunter2", "!vault|", "! Valut", "!vau-lt", "!vault_", "!Vault-encrypted"]
 TYPED_WITH = ["n: {} x", "n:{} x", "n {} x", "# n: {} x", "n: '{} x'", "n: [{} x]", "n: x # {}", "{}: x", "n: ({})"]
 VALUE = b"first: !vault |\n          " + envelope(b"x").strip().replace(b"\n", b"\n          ") + b"\n"
@@ -164,6 +165,73 @@ def test_slips_of_old_values(slip: str) -> None:
     file = make_draft(VALUE)
     with pytest.raises(Refused, match=f"^line 1: {NO_VALUE}|it cannot be read as YAML|is missing after"):
         file.encrypt(Hexadecimal(), file.plaintext.replace(b"!vault", slip.encode()))
+
+
+# Lines in which the tag is mistyped, but which may be meant. The last ones have what a keyboard may have for a `!`.
+NAMED = ["n: !v x", "n: !secret x", "n: !.vault x", "n: !/vault x", "n: !'vault' x", "n: !vlt x", "n: !<v> x", "n: ! x"]
+NAMED += ["n: !\n  vault x", "n: vault x", "n: vault! x", "n: vault |-\n  x", "n: v!ault x", "n: vaults x", "n: !v [x]"]
+NAMED += ["n: !=vault x", "n: 1vault x", "n: \uff01vault x", "n: \xa1vault x"]
+# Lines that nobody takes for a value with the tag.
+NOT_NAMED = ["n: vault", "n: 'vault x'", "n: Vault | x", "n: !!str x", "n: !unsafe x", "n: Open the vault!"]
+NOT_NAMED += ["n: |\n  vault x", "n: default vault", "n: fault x", "n: vaulted x", "# vault x"]
+
+
+@pytest.mark.parametrize("line", NAMED + NOT_NAMED)
+def test_named(line: str) -> None:
+    """A value that may have been meant to have the tag is saved and named. A later edit says nothing of it."""
+    file, typed = make_draft(VALUE), line.encode() + b"\n"
+    notes = ["n has no tag `!vault`, so it is plaintext"] if line in NAMED else []
+    assert file.encrypt(Hexadecimal(), file.plaintext + typed) == (VALUE + typed, notes)
+    file = make_draft(VALUE + typed)
+    assert file.encrypt(Hexadecimal(), b"k: 1\n" + file.plaintext).notes == []
+
+
+OF_LOST = b"""\
+app:
+  host: db1
+  password: !vault |-
+            $ANSIBLE_VAULT;1.1;AES256
+            636f72726563740a686f727365
+  user: kim
+old:
+  password: plain
+"""
+SHOWN = "  password: !vault |-\n    correct\n    horse\n"
+AT_KEY, ELSEWHERE = "app.password is now plaintext", "the old text of app.password is now plaintext"
+# What takes the place of what is shown, and what is said.
+LOST = {
+    "no tag": ("!vault ", "", AT_KEY),
+    "no tag, and another text": (SHOWN, "  password: staple\n", AT_KEY),
+    "in quotes": (SHOWN, '  password: "correct\\nhorse"\n', AT_KEY),
+    "at another key": (SHOWN, "  passwort: |\n    correct\n    horse\n", ELSEWHERE),
+    "no line with the tag": ("  password: !vault |-\n", "", ELSEWHERE),
+    "in a comment": (SHOWN, "  # password: vault |-\n  #   correct\n  #   horse\n", ELSEWHERE),
+    "within a text": (SHOWN, "  note: so correct horse!\n", ELSEWHERE),
+    "beside the new text": (SHOWN, "  # correct horse\n  password: !vault new\n", ELSEWHERE),
+    "removed": (SHOWN, "", ""),
+    "a part of it": (SHOWN, "  # correct\n  note: correct horses\n", ""),
+    "an alias": (SHOWN, "  password: *x\n", ""),
+    "another key": ("  password: !", "  passwort: !", ""),
+    "another parent": ("app:\n", "web:\n", ""),
+    "the parent of another": (f"app:\n  host: db1\n{SHOWN}  user: kim\nold:", "app:", ""),
+}
+
+
+@pytest.mark.parametrize("ending", [b"\n", b"\r\n"], ids=repr)
+@pytest.mark.parametrize("before, after, note", LOST.values(), ids=LOST)
+def test_lost_tags(before: str, after: str, note: str, ending: bytes) -> None:
+    """A text that was encrypted and is in plaintext now is named, wherever it is."""
+    file = make_draft(OF_LOST.replace(b"\n", ending))
+    old, new = (text.encode().replace(b"\n", ending) for text in (before, after))
+    saved = file.encrypt(Hexadecimal(), file.plaintext.replace(old, new))
+    assert [each for each in saved.notes if "encrypted" not in each] == ([note] if note else [])
+
+
+def test_lost_document() -> None:
+    """A value without a key is named, too."""
+    file = make_draft(VALUE.replace(b"first", b"---").replace(b":", b"", 1))
+    assert file.encrypt(Hexadecimal(), b"--- !vault y\n").notes == ["encrypted the document (label default)"]
+    assert file.encrypt(Hexadecimal(), b"--- y\n").notes == ["the document is now plaintext"]
 
 
 # What looks less like the tag, and may be typed.

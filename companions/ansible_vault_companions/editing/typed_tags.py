@@ -1,7 +1,7 @@
-"""What is typed after `!vault`, or after a word that looks like it, is encrypted, or the edit is refused.
+"""What is typed after `!vault`, or after a word that looks like it, is encrypted, or the edit is refused. A new value
+that is nearly one with the tag is saved and named.
 
-Only the lines that an edit adds or changes count. Those that were shown are the user's own, whatever they contain, and
-may move.
+Only what an edit adds or changes counts. What was shown is the user's own, whatever it is, and may move.
 """
 
 from __future__ import annotations
@@ -9,28 +9,25 @@ from __future__ import annotations
 import re
 from bisect import bisect_right
 from collections import Counter
-from collections.abc import Iterator
+from collections.abc import Iterable, Iterator
 
-from ansible_vault_companions.envelopes.node import PLAIN, Node
+from ansible_vault_companions.envelopes.node import NO_SCALAR, PLAIN, Node
 from ansible_vault_companions.envelopes.parsed_text import ParsedText
 from ansible_vault_companions.refusals import Refused
 
-DIRECTIVE = b"%TAG"
-# What looks like the tag: `!`, blanks or not, and a word that begins with `vault` or is one slip away from that: a
-# letter is missing, wrong or too many, or two are swapped. A run of blanks and exclamation marks is taken once.
-LOOKALIKE = re.compile(
-    rb"([ \t!<]+)(vault|(?:"
-    rb"[-\w]?ault|v[-\w]?ult|va[-\w]?lt|vau[-\w]?t|vaul[-\w]?|"
-    rb"[-\w]vault|v[-\w]ault|va[-\w]ult|vau[-\w]lt|vaul[-\w]t|"
-    rb"avult|vualt|valut|vautl)(?!\w))?",
-    re.IGNORECASE,
-)
+# Behind another character of its line, it is text.
+DIRECTIVE = re.compile(rb"(?<![ -~\t])%TAG")
+TAG_WORD = "!vault"
+# A run of exclamation marks and blanks, which is taken once, and the word behind it.
+RUN = re.compile(r"([!<\s]+)([\w-]*)")
 # No letter precedes the `!`, as in `So far! Vault`.
-BEGIN = re.compile(rb"(?<![\w\x80-\xff])!")
+BEGIN = re.compile(r"(?<![^\W\d_])!")
 # A tag, and what precedes the text of a scalar besides: anchor, comments.
 TAG = re.compile(rb"(![^ \t\r\n]*)(?:[ \t\r\n]|&[-\w]*|(?<=[ \t\r\n])#[^\r\n]*)*")
 # What may follow a text without quotes in its line.
 REST = re.compile(rb"[ \t,\]}]*(?:[\r\n]|\Z)")
+# The tags of YAML and Ansible that encrypt nothing.
+YAMLS_TAG, UNSAFE_TAG = "tag:yaml.org,2002:", "!unsafe"
 
 HAS_DIRECTIVE = "line {}: `%TAG` may make `!vault` another tag; change this file with another editor"
 NO_VALUE = (
@@ -42,9 +39,10 @@ CUT_SHORT = "line {}: only a part of the text after `!vault` would be encrypted;
 
 
 def refuse_directive(data: bytes) -> None:
-    """Refuses a text with `%TAG`, even if that is within a string."""
-    if DIRECTIVE in data:
-        raise Refused(HAS_DIRECTIVE.format(data.count(b"\n", 0, data.index(DIRECTIVE)) + 1))
+    """Refuses a text with a line that begins with `%TAG`."""
+    found = DIRECTIVE.search(data)
+    if found:
+        raise Refused(HAS_DIRECTIVE.format(data.count(b"\n", 0, found.start()) + 1))
 
 
 def check_typed_tags(shown: bytes, saved: ParsedText) -> None:
@@ -82,10 +80,27 @@ def _find_faults(saved: ParsedText) -> Iterator[tuple[int, bytes, str]]:
 
 def _find_lookalikes(line: bytes) -> Iterator[int]:
     """Where in a line each thing that looks like the tag begins."""
-    for found in LOOKALIKE.finditer(line):
-        begin = BEGIN.search(line, found.start(), found.end(1)) if found[2] else None
-        if begin:
-            yield begin.start()
+    text = line.decode() if b"!" in line else ""
+    place = character = 0
+    for found in RUN.finditer(text):
+        begin = BEGIN.search(text, found.start(), found.end(1))
+        if begin and _is_like_tag("!" + found[2].lower().removesuffix("-encrypted")):
+            place += len(text[character : begin.start()].encode())
+            character = begin.start()
+            yield place
+
+
+def _is_like_tag(word: str) -> bool:
+    """Whether a word begins with the tag, or is the tag but for one character: that is missing, wrong or too many, or
+    in another place."""
+    # A word that is even longer stays too long without one.
+    start = word[: len(TAG_WORD) + 2]
+    return start.startswith(TAG_WORD) or not _drop_one(start).isdisjoint(_drop_one(TAG_WORD))
+
+
+def _drop_one(word: str) -> set[str]:
+    """The word, and what remains of it without each of its characters."""
+    return {word, *(word[:place] + word[place + 1 :] for place in range(len(word)))}
 
 
 def _is_cut_short(data: bytes, tag_end: int, value: Node) -> bool:
@@ -94,3 +109,25 @@ def _is_cut_short(data: bytes, tag_end: int, value: Node) -> bool:
     if value.style != PLAIN or value.is_envelope:
         return False
     return data[tag_end : value.begin].strip() != b"" or not REST.match(data, value.end)
+
+
+def find_other_tags(shown: list[Node], saved: Iterable[Node]) -> list[Node]:
+    """The new values in plaintext that may have been meant otherwise: with a tag that was not shown, or with a first
+    word that is nearly the tag."""
+    tags, texts = {value.tag for value in shown}, {value.text for value in shown}
+    return [
+        value
+        for value in saved
+        if value.tag not in tags and _has_other_tag(value) or value.text not in texts and _begins_like_tag(value)
+    ]
+
+
+def _has_other_tag(value: Node) -> bool:
+    is_known = value.is_tagged or value.tag == UNSAFE_TAG or value.tag.startswith(YAMLS_TAG)
+    return value.tag != "" and not is_known and (value.text.strip() != b"" or value.style == NO_SCALAR)
+
+
+def _begins_like_tag(value: Node) -> bool:
+    """Whether a text without quotes has nearly the tag as its first word."""
+    words = value.text.split(maxsplit=1)
+    return value.style == PLAIN and not value.tag and len(words) > 1 and _is_like_tag(words[0].decode())

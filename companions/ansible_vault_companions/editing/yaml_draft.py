@@ -9,8 +9,9 @@ from collections.abc import Iterator
 from typing import NamedTuple
 
 from ansible_vault_companions.editing.encrypting_password import Choice
+from ansible_vault_companions.editing.lost_tags import find_lost
 from ansible_vault_companions.editing.matching import DecryptedValue, Match, describe_place, find_matches
-from ansible_vault_companions.editing.typed_tags import check_typed_tags, refuse_directive
+from ansible_vault_companions.editing.typed_tags import check_typed_tags, find_other_tags, refuse_directive
 from ansible_vault_companions.envelopes import conflicts
 from ansible_vault_companions.envelopes.header import MAGIC
 from ansible_vault_companions.envelopes.layout import (
@@ -35,7 +36,8 @@ NOTHING_TYPED = 'is missing after `!vault`; write `""` for an empty one'
 LIKE_A_VAULT = "begins like a vault ($ANSIBLE_VAULT), but is not one, so ansible-vault does not encrypt it"
 # What is said of a saved text.
 ENCRYPTED = "encrypted {} (label {})"
-IN_PLAINTEXT = "{} is now plaintext"
+IN_PLAINTEXT, TEXT_IN_PLAINTEXT = "{} is now plaintext", "the old text of {} is now plaintext"
+OTHER_TAG = "{} has no tag `!vault`, so it is plaintext"
 
 
 class Saved(NamedTuple):
@@ -107,30 +109,28 @@ class YamlDraft:
         matches = find_matches(self.opened, typed, self.choice)
         envelopes = work_at_once(lambda pair: _seal(tool, *pair), zip(typed, matches))
         changes = [change for pair in zip(typed, matches, envelopes) for change in _write(text, *pair)]
-        content = rewrite(after, changes, dict(zip(typed, envelopes))).data
-        return Saved(content, [*_describe_encrypted(typed, matches), *self._describe_lost(after, matches)])
+        saved = rewrite(after, changes, dict(zip(typed, envelopes)))
+        return Saved(saved.data, [*_describe_encrypted(typed, matches), *self._describe_plaintext(saved, matches)])
 
-    def _describe_lost(self, after: ParsedText, matches: list[Match]) -> Iterator[str]:
-        """Names each value that has lost its tag: the text at its key, or its text where it was not before."""
+    def _describe_plaintext(self, saved: ParsedText, matches: list[Match]) -> Iterator[str]:
+        """Names the values that have lost their tag, and the new ones with something like it."""
+        shown = [side.shown for side in self.sides]
         kept = {match.kept for match in matches}
-        gone = [old for old in self.opened if old not in kept]
-        # An item of a list may be at the place of another.
-        paths = {old.value.path for old in gone if old.value.name}
-        texts = {old.text.strip() for old in gone}
-        before = {(value.path, value.text) for side in self.sides for value in side.shown.values}
-        for value in after.values:
-            if value.is_tagged or not value.text.strip():
-                continue
-            has_moved = value.text.strip() in texts and (value.path, value.text) not in before
-            if value.path in paths or has_moved:
-                yield IN_PLAINTEXT.format(escape(value.typed_path))
+        for value, is_at_key in find_lost([old for old in self.opened if old not in kept], shown, saved):
+            yield (IN_PLAINTEXT if is_at_key else TEXT_IN_PLAINTEXT).format(_describe_path(value))
+        for value in find_other_tags([value for side in shown for value in side.values], saved.values):
+            yield OTHER_TAG.format(_describe_path(value))
 
 
 def _describe_encrypted(typed: list[Node], matches: list[Match]) -> Iterator[str]:
     """Names the values that have been encrypted, with the label of each."""
     for value, match in zip(typed, matches):
         if match.key:
-            yield ENCRYPTED.format(escape(value.typed_path), escape(match.key.label))
+            yield ENCRYPTED.format(_describe_path(value), escape(match.key.label))
+
+
+def _describe_path(value: Node) -> str:
+    return escape(value.typed_path) or "the document"
 
 
 def _try_to_open(data: bytes, value: Node, decrypt: Decrypt) -> DecryptedValue | Refused | None:
