@@ -58,4 +58,5 @@ def _list_words(text: bytes) -> bytes:
 
 def _count(words: bytes, text: bytes) -> int:
     """How often a text has these words one after the other. No words are nowhere."""
-    return len(re.findall(rb"(?<!\w)%s(?!\w)" % re.escape(words), text)) if words else 0
+    # The search for bytes is much faster than that for a pattern, and mostly finds none.
+    return len(re.findall(rb"(?<!\w)%s(?!\w)" % re.escape(words), text)) if words and words in text else 0
