@@ -32,7 +32,7 @@ def replace_by_branch(place: Place, content: bytes, mode: int, name: str = ".vau
     place.shell(f"git branch mine; git checkout -qb theirs; rm {name}")
     place.put(name, content, mode)
     place.put("a.vault.yml", sealed("old", b"more: text\n"))
-    place.shell(f"git add -f . && git commit -qm theirs && git checkout -q mine")
+    place.shell("git add -f . && git commit -qm theirs && git checkout -q mine")
     place.put(name, PASSWORDS["old"])
     silent("the checkout", place.shell("git checkout -q theirs"))
     assert place.get(name) == content
