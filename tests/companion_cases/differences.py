@@ -68,14 +68,16 @@ LINES = {
         ["AV view --vault-id dev@~/secrets/dev dev.yml", "AV view --vault-password-file=~/secrets/old a.yml"]
     ),
     "abbreviated options": Lines(
-        ["AV view --vault-pass-file ../secrets/old a.yml", f"AV view --vault-password-f ../secrets/old a.yml"]
+        ["AV view --vault-pass-file ../secrets/old a.yml", "AV view --vault-password-f ../secrets/old a.yml"]
     ),
     "options follow the command": Lines(differ=[f"AV {OLD} view a.yml"]),
     "command lines that do not parse": Lines(
         differ=[f"AV encrypt {OLD} --output x plain.yml a.yml", f"AV encrypt_string {OLD} ''"]
     ),
     "messages after success": Lines(differ=[f"AV rekey {OLD} {NEW} a.yml"], looks_at="messages"),
-    "a password file that is itself a vault": Lines(differ=[f"AV view {OLD} --vault-id dev@sealed.pass dev.yml"]),
+    "a password file that is itself a vault": Lines(
+        differ=[f"AV view --vault-id ../secrets/old --vault-id dev@sealed.pass dev.yml"]
+    ),
     "a missing or empty password file": Lines(
         [f"{SETTING} {LIST},/none AV view a.yml"], [f"AV view --vault-password-file none {OLD} a.yml"]
     ),
@@ -104,7 +106,6 @@ LINES = {
     ),
     "`rekey` has no `--output`": Lines(differ=[f"AV rekey {OLD} {NEW} --output - a.yml"]),
     "`view`, `edit` and `rekey` do nothing": Lines(differ=[f"AV view {OLD} < a.yml"]),
-    "`/dev/stdin` as FILE": Lines(differ=[f"cat a.yml | AV view {OLD} /dev/stdin"]),
     "`view` ends a text": Lines(differ=[f"AV view {OLD} no-end.yml"]),
     "`view` replaces bytes": Lines(differ=[f"AV view {OLD} binary.yml"]),
     "a password file that begins with `#!`": Lines(differ=["AV encrypt --vault-password-file no-script plain.yml"]),
@@ -148,8 +149,8 @@ def put_files(place: Place) -> None:
     place.put("../plain.yml", TEXT)
     place.put("no-script", b"#!the password old\n")
     scripts = {"script": "cat ../secrets/old", "spaces": "echo ' the password old '", "reads": "cat"}
-    for name, text in scripts.items():
-        place.put(name, f"#!/bin/sh\n{text}\n".encode(), 0o755)
+    for name, command in scripts.items():
+        place.put(name, f"#!/bin/sh\n{command}\n".encode(), 0o755)
 
 
 def outcome(place: Place, tool: str, line: str, looks_at: str, **variables: str) -> object:

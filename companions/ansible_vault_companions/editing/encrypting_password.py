@@ -50,7 +50,8 @@ class Choice(NamedTuple):
         """The key of something new; None if there are several passwords and nobody has chosen one. Refuses a chosen one
         that cannot be used."""
         of_values = self.key_of_values
-        if self.label is None and of_values and of_values.password.content in {each.content for each in self.candidates}:
+        contents = {password.content for password in self.candidates}
+        if self.label is None and of_values and of_values.password.content in contents:
             return of_values
         if self.label is None and len(self.candidates) > 1:
             return None
