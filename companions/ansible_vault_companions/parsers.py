@@ -4,10 +4,10 @@ from __future__ import annotations
 
 import argparse
 import os
-from collections.abc import Iterable
+from collections.abc import Callable, Iterable
 
 from ansible_vault_companions import VERSION
-from ansible_vault_companions.output import write_error
+from ansible_vault_companions.output import write_error, write_line
 from ansible_vault_companions.quoting import escape, quote_word
 
 # The module `typing` takes long to import.
@@ -62,7 +62,25 @@ class Parser(argparse.ArgumentParser):
         self.exit(2)
 
 
-def make_parser(name: str, summary: str, example: str, allow_abbrev: bool = False, usage: str | None = None) -> Parser:
+class Version(argparse.Action):
+    """Prints the version and, of a companion that decrypts, what does that for it."""
+
+    def __call__(self, parser: argparse.ArgumentParser, *_: object) -> None:
+        name, describe_tool = self.const
+        write_line(f"{name} {VERSION}")
+        if describe_tool:
+            write_line(describe_tool())
+        parser.exit()
+
+
+def make_parser(
+    name: str,
+    summary: str,
+    example: str,
+    allow_abbrev: bool = False,
+    usage: str | None = None,
+    describe_tool: Callable[[], str] | None = None,
+) -> Parser:
     """A parser that exits with status 2 if the command line is invalid."""
     made = Parser(
         name,
@@ -73,10 +91,13 @@ def make_parser(name: str, summary: str, example: str, allow_abbrev: bool = Fals
         add_help=False,
         allow_abbrev=allow_abbrev,
     )
-    add_common_options(made, name)
+    add_common_options(made, name, describe_tool)
     return made
 
 
-def add_common_options(parser: argparse.ArgumentParser, name: str) -> None:
+def add_common_options(
+    parser: argparse.ArgumentParser, name: str, describe_tool: Callable[[], str] | None = None
+) -> None:
     parser.add_argument("-h", "--help", action="help", help="print help")
-    parser.add_argument("-V", "--version", action="version", version=f"{name} {VERSION}", help="print version")
+    options: dict[str, Any] = {"action": Version, "const": (name, describe_tool), "nargs": 0}
+    parser.add_argument("-V", "--version", default=argparse.SUPPRESS, help="print version", **options)

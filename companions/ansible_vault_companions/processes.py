@@ -103,14 +103,20 @@ def describe_start(fault: OSError, program: str) -> str:
     return f"{program} cannot be started: {fault.strerror}"
 
 
-def find_beside(companion: str, name: str) -> str | None:
-    """The path of another program beside a companion, or beside a file that a link to the companion leads to."""
+def list_beside(companion: str) -> list[str]:
+    """The directory of a companion, and those of the files that a link to it leads to."""
     path = os.path.abspath(companion)
     folders = [os.path.dirname(path)]
     while os.path.islink(path):
         path = os.path.normpath(os.path.join(os.path.dirname(path), os.readlink(path)))
         folders.append(os.path.dirname(path))
-    return find_program(folders, name, companion)
+    return folders
+
+
+def find_beside(companion: str, name: str) -> str | None:
+    """The path of another program beside a companion."""
+    found = find_programs(list_beside(companion), name, companion)
+    return found[0] if found else None
 
 
 def take_over(path: str, words: list[str], kept: Iterable[int]) -> NoReturn:
@@ -124,8 +130,8 @@ def take_over(path: str, words: list[str], kept: Iterable[int]) -> NoReturn:
     os.execv(path, [path, *words])
 
 
-def find_program(folders: list[str], name: str, companion: str) -> str | None:
-    """The first program of this name that is not the companion itself, to which a link may have given the name."""
+def find_programs(folders: list[str], name: str, companion: str) -> list[str]:
+    """The programs of this name that are not the companion itself, to which a link may have given the name."""
     paths = (os.path.join(folder, name) for folder in folders if folder)
     fitting = (path for path in paths if os.path.isfile(path) and os.access(path, os.X_OK))
-    return next((path for path in fitting if not os.path.samefile(path, companion)), None)
+    return [path for path in fitting if not os.path.samefile(path, companion)]

@@ -10,7 +10,7 @@ import re
 import threading
 from collections.abc import Callable, Hashable
 from contextlib import suppress
-from functools import partial
+from functools import cache, partial
 
 from ansible_vault_companions import processes
 from ansible_vault_companions.envelopes.header import (
@@ -22,6 +22,7 @@ from ansible_vault_companions.envelopes.header import (
 )
 from ansible_vault_companions.passwords.labels import Policy, describe_attempts, order_to_try, require_label
 from ansible_vault_companions.passwords.password import Password
+from ansible_vault_companions.quoting import escape
 from ansible_vault_companions.refusals import Refused
 
 NAME = "ansible-vault"
@@ -38,6 +39,11 @@ TO_ENVELOPE = ("encrypt", "rekey", TO_VALUE)
 NOT_WHOLE = f"{NAME} failed: it ended with status 0, but its output is not whole; run this again"
 # The bytes of all remembered envelopes and texts, since there may be any number of files.
 REMEMBERED_BYTES = 1 << 26
+# The version that this project's program prints. That of Ansible 2.10 begins like it, and has more lines.
+OWN_VERSION = re.compile(rb"ansible-vault \d[^\n]*\n")
+# How a script begins that Python runs: its first line names it or, where pip has put a long path, the second one.
+PYTHON_SCRIPT = re.compile(rb"#! *(.*python.*)\n|#!/bin/sh\n'''exec' [\"']?(.*?)[\"']? \"\$0\"")
+LONGEST_START = 4_096
 
 
 class Key:
@@ -111,28 +117,29 @@ class Result:
         return self.data
 
 
-class Tool:
-    """The ansible-vault beside a companion, otherwise the one on PATH. Each run derives a key, and the same envelope
-    may occur more than once, so results are remembered, including refusals."""
+class NoProgram(Refused):
+    """This project's ansible-vault is missing. There may be others of this name."""
 
-    def __init__(self, companion: str, only_shows: bool = False) -> None:
-        beside = processes.find_beside(companion, NAME)
-        path = beside or processes.find_program(os.get_exec_path(), NAME, companion)
-        if path is None:
-            raise Refused(f"there is no {NAME} beside this program or on PATH; install it")
+    def __init__(self, text: str, others: list[str]) -> None:
+        super().__init__(text)
+        self.others = others
+
+
+class Tool:
+    """This project's ansible-vault. Each run derives a key, and the same envelope may occur more than once, so results
+    are remembered, including refusals."""
+
+    def __init__(self, path: str) -> None:
         self.path = path
-        # The one beside was installed with the companion, so a text that is only shown can do without the question.
-        if not (beside and only_shows):
-            self._require_own()
         self.lock = threading.Lock()
         self.results: dict[Hashable, Result] = {}
         self.room = REMEMBERED_BYTES
 
-    def _require_own(self) -> None:
-        """Refuses another program of this name, such as that of Ansible."""
-        if re.match(rb"ansible-vault \d", processes.run_program([self.path, "--version"]).stdout) is None:
-            why = "is not the ansible-vault that the companions need; put the right one beside them or on PATH"
-            raise Refused(f"{self.path} {why}")
+    def describe(self) -> str:
+        return f"the tool is {escape(self.path)}"
+
+    def announce(self, companion: str) -> None:
+        """Says at a terminal what else than this project's program works for a companion."""
 
     def run(self, words: list[str], data: bytes, passwords: list[Password], label: str = "") -> bytes:
         """The tool's output, with a label if it is an envelope. Raises Refused with the tool's message if it fails."""
@@ -188,6 +195,58 @@ class Tool:
                 self.room -= size
                 self.results[what] = result
         return result.get()
+
+
+def find_tool(companion: str, only_shows: bool = False) -> Tool:
+    """This project's program or, if there is none, Ansible's tool."""
+    try:
+        return find_own(companion, only_shows)
+    except NoProgram as missing:
+        # Most runs have the program.
+        from ansible_vault_companions import ansible_tool
+
+        return ansible_tool.find_ansible(missing)
+
+
+def find_own(companion: str, only_shows: bool = False) -> Tool:
+    """This project's program beside a companion, or else the first one on PATH."""
+    beside = processes.list_beside(companion)
+    paths = processes.find_programs([*beside, *os.get_exec_path()], NAME, companion)
+    for path in paths:
+        # The one beside was installed with the companion, so a text that is only shown can do without the question.
+        if not read_python(path) and (only_shows and os.path.dirname(path) in beside or _is_own(path)):
+            return Tool(path)
+    if not paths:
+        raise NoProgram(f"there is no {NAME} beside this program or on PATH; install it", paths)
+    why = "is not the ansible-vault that the companions need; put the right one beside them or on PATH"
+    raise NoProgram(f"{paths[0]} {why}", paths)
+
+
+def _is_own(path: str) -> bool:
+    return OWN_VERSION.fullmatch(ask_version(path)) is not None
+
+
+@cache
+def ask_version(path: str) -> bytes:
+    return processes.run_program([path, "--version"]).stdout
+
+
+def read_python(path: str) -> list[str]:
+    """The words that start the Python of a script; none for any other program."""
+    with suppress(OSError), open(path, "rb") as file:
+        found = PYTHON_SCRIPT.match(file.read(LONGEST_START))
+        if found:
+            line, alone = map(os.fsdecode, found.groups(b""))
+            return line.split() or [alone]
+    return []
+
+
+def describe_tool(companion: str) -> str:
+    """Which tool works for a companion, or why none does."""
+    try:
+        return find_tool(companion).describe()
+    except Refused as fault:
+        return str(fault)
 
 
 def require_whole(command: str, data: bytes, output: bytes, label: str) -> None:

@@ -191,17 +191,6 @@ def test_logs(place: Place, files: dict[str, bytes | None]) -> None:
         assert [word for word in HIDDEN if word in output] == [], (line, output)
 
 
-def test_which_tool(place: Place) -> None:
-    """Another program with the name of the tool gets no password."""
-    place.put("a.yml", sealed("old"))
-    (place.tools / "ansible-vault").unlink()
-    theirs = '[ "$1" = --version ] && echo "ansible-vault [core 2.14.18]"; echo run >> ../runs'
-    place.script(theirs, "tools/ansible-vault")
-    done = place.run(CHECK, *place.by_file("old"), ".")
-    ended("Ansible's tool", done, 1, "is not the ansible-vault that the companions need")
-    assert (place.path / "runs").read_text() == "run\n", "is asked its version alone"
-
-
 # Command lines that only show a text, and others.
 SHOWING = [f"{TEXTCONV} {OLD} a.yml", f"{TEXTCONV} {OLD} values.yml", f"{WITH} view {OLD} a.yml"]
 OTHERS = [f"{TEXTCONV} {OLD} --value secret values.yml", *(line for line in RUNS if line not in SHOWING)]

@@ -13,7 +13,7 @@ from ansible_vault_companions.alias.password_choice import Call
 from ansible_vault_companions.alias.standard_input import read_standard_input, takes_input
 from ansible_vault_companions.output import write_error
 from ansible_vault_companions.passwords import prompts
-from ansible_vault_companions.tool import Tool
+from ansible_vault_companions.tool import find_own
 
 
 class String(NamedTuple):
@@ -26,7 +26,7 @@ class String(NamedTuple):
 
 def encrypt_strings(companion: str, call: Call) -> int:
     """Writes a value for each string, in Ansible's order. Returns the exit status."""
-    tool = Tool(companion)
+    tool = find_own(companion)
     strings = _list_strings(call.args, call.asking.reads_lines)
     values = []
     for number, string in enumerate(strings, 1):

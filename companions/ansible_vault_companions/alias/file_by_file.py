@@ -11,12 +11,12 @@ from ansible_vault_companions.alias.password_choice import Call
 from ansible_vault_companions.alias.standard_input import read_standard_input
 from ansible_vault_companions.envelopes.pointers import refuse_pointer
 from ansible_vault_companions.files import link_bounds, reading, replacing
-from ansible_vault_companions.tool import Tool
+from ansible_vault_companions.tool import Tool, find_own
 
 
 def handle_files(companion: str, call: Call) -> int:
     """Replaces or shows each file. Returns the exit status."""
-    files, paths = Files(Tool(companion), call), call.args.arguments or [STANDARD_INPUT]
+    files, paths = Files(find_own(companion), call), call.args.arguments or [STANDARD_INPUT]
     statuses: list[int] = []
     with output.Progress(lambda: f"file {len(statuses) + 1:,} of {len(paths):,}") as progress:
         for path in paths:

@@ -43,7 +43,7 @@ def _find_program(companion: str) -> str:
     path = processes.find_beside(companion, PROGRAM)
     if path is None:
         # One on PATH may be another program.
-        from ansible_vault_companions.tool import Tool
+        from ansible_vault_companions.tool import find_own
 
-        path = Tool(companion).path
+        path = find_own(companion).path
     return path

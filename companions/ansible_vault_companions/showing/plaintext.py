@@ -15,7 +15,7 @@ from ansible_vault_companions.passwords.password import Password
 from ansible_vault_companions.quoting import escape
 from ansible_vault_companions.refusals import Refused, describe_fault
 from ansible_vault_companions.showing import first_line
-from ansible_vault_companions.tool import NotDecrypted, Tool
+from ansible_vault_companions.tool import NotDecrypted, find_tool
 
 NAME = "ansible-vault-textconv"
 # The file with git's commit message. `git commit -v` writes the diff into it, and it stays.
@@ -63,7 +63,7 @@ def _show_vault(companion: str, target: str, passwords: list[Password], policy: 
     vault = reading.read_if_begins(target, MAGIC)
     if not vault:
         return None
-    tool = Tool(companion, only_shows=True)
+    tool = find_tool(companion, only_shows=True)
     try:
         decrypted = tool.decrypt(vault, passwords, policy)
     except NotDecrypted:
@@ -83,7 +83,7 @@ def _show_values(
     parsed = file_with_values.read_envelopes(target)
     if not parsed.values:
         return None
-    decrypt = partial(Tool(companion, only_shows=True).decrypt, passwords=passwords, policy=policy)
+    decrypt = partial(find_tool(companion, only_shows=True).decrypt, passwords=passwords, policy=policy)
     return file_with_values.show_envelopes(NAME, parsed, path, target, decrypt)
 
 
@@ -101,5 +101,5 @@ def _print_as_it_is(path: str, target: str, why: str, line: bytes = first_line.A
 def _print_value(companion: str, path: str, target: str, passwords: list[Password], policy: Policy) -> None:
     from ansible_vault_companions.showing import file_with_values
 
-    decrypt = partial(Tool(companion).decrypt, passwords=passwords, policy=policy)
+    decrypt = partial(find_tool(companion).decrypt, passwords=passwords, policy=policy)
     output.write_data(file_with_values.show_value(reading.read_existing(target), path, decrypt))
