@@ -20,13 +20,10 @@ INSTALL = "ansible-vault-hook --install --vault-id prod@~/.vault/prod.pass"
 GITCONFIG = "[user]\nname = Eve\nemail = eve@example.org\n[core]\nabbrev = 7\n[color]\nui = always\n"
 ENVIRONMENT = {"GIT_CONFIG_NOSYSTEM": "1", "LC_ALL": "C.UTF-8"}
 
-# For each row, the titles of its windows.
-TITLES = [
-    ("git diff of a vault, without this tool", "The same git diff, after one command and one line"),
-    ("A merge conflict, without this tool", "The same conflict, with it"),
-]
-# The characters in a line of each column.
-COLUMNS = (47, 65)
+# The titles of the windows.
+TITLES = ["git diff of a vault", "A merge conflict in a vault"]
+# The characters in a line, so few that a telephone shows them.
+COLUMNS = 47
 # In pixels.
 LINE = 16
 # The width of a character of DejaVu Sans Mono of this size.
@@ -36,7 +33,7 @@ SIZE = 12
 MARGIN = 14
 TITLE = 32
 GAP = 12
-WIDTHS = [round(columns * ADVANCE) + 2 * MARGIN for columns in COLUMNS]
+WIDTH = round(COLUMNS * ADVANCE) + 2 * MARGIN
 # The classes of git's colors, by their codes in a terminal.
 CLASSES = {"1": "head", "31": "old", "32": "new", "36": "place"}
 STYLE = f"""\
@@ -85,21 +82,21 @@ class Session:
         words = f'--vault-id prod@"$HOME"/.vault/prod.pass --salt "salt of {password}" --output vault.yml'
         self.run(f"ansible-vault encrypt {words}", VAULT.format(password))
 
-    def show_differences(self, is_set_up: bool) -> tuple[list[Line], list[Line]]:
+    def show_differences(self) -> list[list[Line]]:
         """Return what git shows of a change, and of a conflict with a branch."""
         self.run("git init -q -b main")
         self.write_vault("correct horse")
+        (self.repository / ".gitattributes").write_text("vault.yml diff=ansible-vault merge=ansible-vault\n")
+        self.run(INSTALL)
         self.run("git add . && git commit -qm one && git checkout -qb team")
         self.write_vault("rubber duck")
         self.run("git commit -qam two && git checkout -q main")
         self.write_vault("battery staple")
-        (self.repository / ".gitattributes").write_text("vault.yml diff=ansible-vault merge=ansible-vault\n")
-        change = [*shorten(self.run(INSTALL), 2), *self.run("cat .gitattributes")] if is_set_up else []
-        change += self.run("git diff")
+        change = self.run("git diff")
         self.run("git commit -qam three")
         command, *printed = self.run("git merge team", status=1)
         printed.sort(key=lambda line: "CONFLICT" not in line.text)
-        return change, [*shorten([command, *printed], 3), *self.run("git diff")]
+        return [change, [*shorten([command, *printed], 3), *self.run("git diff")]]
 
 
 def read_line(printed: str) -> Line:
@@ -117,40 +114,34 @@ def shorten(lines: list[Line], count: int) -> list[Line]:
     return [*lines[: count - last - 1], mark, *lines[len(lines) - last :]]
 
 
-def draw_window(title: str, lines: list[Line], column: int, y: int, height: int) -> str:
+def draw_window(title: str, lines: list[Line], y: int, height: int) -> str:
     """Return a window. Lines that are too long end with a mark."""
-    x = column * (WIDTHS[0] + GAP)
-    width = WIDTHS[column]
-    columns = COLUMNS[column]
-    body = f'<rect class="window" x="{x + 0.5}" y="{y + 0.5}" width="{width - 1}" height="{height - 1}" rx="8"/>\n'
-    body += f'<path class="rule" d="M{x + 1} {y + TITLE - 4}.5 h{width - 2}"/>\n'
-    body += f'<text class="title" x="{x + MARGIN}" y="{y + 19}">{title}</text>\n'
+    body = f'<rect class="window" x="0.5" y="{y + 0.5}" width="{WIDTH - 1}" height="{height - 1}" rx="8"/>\n'
+    body += f'<path class="rule" d="M1 {y + TITLE - 4}.5 h{WIDTH - 2}"/>\n'
+    body += f'<text class="title" x="{MARGIN}" y="{y + 19}">{title}</text>\n'
     for base, (kind, text) in zip(range(y + TITLE + LINE, y + height, LINE), lines):
         if kind in ("old", "new"):
-            body += f'<rect class="behind-{kind}" x="{x + 1}" y="{base - 12}" width="{width - 2}" height="{LINE}"/>\n'
-        if len(text) > columns:
-            text = f"{text[: columns - 1]}…"
-        body += f'<text class="text {kind}" x="{x + MARGIN}" y="{base}">{escape(text)}</text>\n'
+            body += f'<rect class="behind-{kind}" x="1" y="{base - 12}" width="{WIDTH - 2}" height="{LINE}"/>\n'
+        if len(text) > COLUMNS:
+            text = f"{text[: COLUMNS - 1]}…"
+        body += f'<text class="text {kind}" x="{MARGIN}" y="{base}">{escape(text)}</text>\n'
     return body
 
 
 def draw_picture(program: str) -> str:
-    """Return the picture. The left windows are as high as the right ones."""
     with tempfile.TemporaryDirectory() as top:
-        left = Session(Path(top, "without"), program).show_differences(is_set_up=False)
-        right = Session(Path(top, "with"), program).show_differences(is_set_up=True)
+        windows = Session(Path(top), program).show_differences()
     body, y = "", 0
-    for (title, other), without, lines in zip(TITLES, left, right):
+    for title, lines in zip(TITLES, windows):
         height = TITLE + len(lines) * LINE + MARGIN
-        body += draw_window(title, shorten(without, len(lines)), 0, y, height)
-        body += draw_window(other, lines, 1, y, height)
+        body += draw_window(title, lines, y, height)
         y += height + GAP
-    text = escape("\n".join(line.text for lines in right for line in lines))
-    width, height = sum(WIDTHS) + GAP, y - GAP
-    size = f'width="{width}" height="{height}" viewBox="0 0 {width} {height}"'
+    text = escape("\n".join(line.text for lines in windows for line in lines))
+    height = y - GAP
+    size = f'width="{WIDTH}" height="{height}" viewBox="0 0 {WIDTH} {height}"'
     return f"""\
 <svg xmlns="http://www.w3.org/2000/svg" {size} role="img" xml:space="preserve">
-<title>git diff and git merge of a vault, without this tool and with it</title>
+<title>git diff and git merge of a vault</title>
 <desc>{text}</desc>
 <style>
 {STYLE}</style>

@@ -21,7 +21,7 @@ def git(*words: str, at: Path = ROOT) -> str:
 
 def cloned(tmp_path_factory: pytest.TempPathFactory) -> Path:
     """Clone what git tracks here, including changes that are not committed yet."""
-    needs("git", "rt")
+    needs("git")
     needs_checkout()
     folder = tmp_path_factory.mktemp("newcomer") / "ansible-vault"
     # This refreshes the index. If only the time of a file has changed, `git stash create` fails otherwise.

@@ -38,9 +38,9 @@ def fenced(document: str, language: str) -> list[str]:
 
 
 def commands(document: str) -> list[str]:
-    """Return the lines of blocks without prompts, without comments."""
+    """Return the commands of blocks without prompts, each on one or more lines, without comments."""
     found = []
     for block in blocks(document):
         if not block.startswith("$ "):
-            found += [re.sub(r"\s+#.*", "", line) for line in block.splitlines()]
+            found += [re.sub(r"\s+#.*", "", command) for command in re.findall(r"(?:.*\\\n)*.+", block)]
     return found
