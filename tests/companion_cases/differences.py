@@ -76,7 +76,7 @@ LINES = {
     ),
     "messages after success": Lines(differ=[f"AV rekey {OLD} {NEW} a.yml"], looks_at="messages"),
     "a password file that is itself a vault": Lines(
-        differ=[f"AV view --vault-id ../secrets/old --vault-id dev@sealed.pass dev.yml"]
+        differ=["AV view --vault-id ../secrets/old --vault-id dev@sealed.pass dev.yml"]
     ),
     "a missing or empty password file": Lines(
         [f"{SETTING} {LIST},/none AV view a.yml"], [f"AV view --vault-password-file none {OLD} a.yml"]

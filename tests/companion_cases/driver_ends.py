@@ -14,7 +14,7 @@ from lib.needs import needs
 pytestmark = pytest.mark.usefixtures("git")
 
 # The driver's arguments after those for the password.
-VERSIONS = {"base": 3, "ours": 4, "theirs": 5}
+VERSIONS = {"base": 2, "ours": 3, "theirs": 4}
 # What takes the place of a version: shell text that makes it at this path, outside of the repository.
 UNREADABLE = {
     "missing": ":",
@@ -66,7 +66,7 @@ def test_unread_version(place: Place, what: str) -> None:
         needs("setpriv")
         user = f"setpriv --reuid={NOBODY} --clear-groups"
     for version, number in VERSIONS.items():
-        words = [f"{user} {place.companions}/{MERGE}", *(f'"${each}"' for each in range(1, 7))]
+        words = [f"{user} {place.companions}/{MERGE}", *(f'"${each}"' for each in range(1, 6))]
         words[number] = given
         replace_driver(place, f"{' '.join(words)}; status=$?; echo $status > ../status; exit $status")
         check_conflict(place)

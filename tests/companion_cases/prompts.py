@@ -50,8 +50,8 @@ def test_how_often(place: Place) -> None:
 
 
 def test_order(place: Place) -> None:
-    """Passwords are tried in this order: those of both options, the one of -J, wherever that is among them, and those of
-    the settings' list and file."""
+    """Passwords are tried in this order: those of both options, the one of -J, wherever that is among them, and those
+    of the settings' list and file."""
     place.put("a.yml", sealed("dev2"))
     settings = {"ANSIBLE_VAULT_IDENTITY_LIST": f"{place.secret('dev')}, {place.secret('prod')}"}
     settings["ANSIBLE_VAULT_PASSWORD_FILE"] = place.secret("prod2")
@@ -231,7 +231,7 @@ def test_no_label_of_new_values(place: Place) -> None:
     place.put("a.yml", OF_TWO)
     words = [EDIT, *place.by_id("dev", "dev"), *place.by_id("prod", "prod"), "a.yml"]
     done = place.run(*words, EDITOR=place.script("echo 'word: !vault new' >> \"$1\"", "editor"))
-    assert done.returncode == 1 and "word is new; choose its password with --encrypt-vault-id" in done.stderr, done
+    assert done.returncode == 1 and "word is new; of the labels " in done.stderr, done
     assert "what you saved is left in plaintext in " in done.stderr and place.copies() == [], done
     assert place.get("a.yml") == OF_TWO, "the file stays"
     done = place.run(*words, EDITOR=place.script('sed -i s/one/One/ "$1"', "editor"))
@@ -249,7 +249,7 @@ def test_label_of_a_new_vault(place: Place) -> None:
     words = [*READING, EDIT, *place.by_id("prod", "dev"), *place.by_id("prod", "prod"), "other.yml"]
     session = ask(place, *words, answers=[("", b"\x04")], EDITOR="touch started")
     assert session.returncode == 1, session
-    why = "the vault is new; choose its password with --encrypt-vault-id: prod, prod"
+    why = "the vault is new; of the labels prod, prod, choose one with --encrypt-vault-id"
     assert session.stderr == f"{EDIT}: other.yml: {why}\n"
     assert place.names() == ["new.yml"], "no editor is started, and no other vault is made"
 

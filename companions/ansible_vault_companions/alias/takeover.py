@@ -1,5 +1,4 @@
-"""Replaces this process with one run of ansible-vault for what goes from standard input, or from an argument, to standard
-output."""
+"""Replaces this process with one run of ansible-vault, from standard input or an argument to standard output."""
 
 from __future__ import annotations
 

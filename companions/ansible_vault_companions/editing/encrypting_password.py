@@ -84,7 +84,7 @@ class Choice(NamedTuple):
         labels = [*dict.fromkeys(password.label for password in self.candidates)]
         if len(labels) == 1 or not os.isatty(0):
             has = describe_labels(self.candidates)
-            raise Refused(f"{place} is new; choose its password with --encrypt-vault-id: {has}")
+            raise Refused(f"{place} is new; of the labels {has}, choose one with --encrypt-vault-id")
         label = prompts.ask_choice(f"Label to encrypt {name} with", labels)
         return Key(choose_to_encrypt(self.candidates, label), label)
 

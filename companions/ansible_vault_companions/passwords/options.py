@@ -124,7 +124,7 @@ def repeat_options(args: argparse.Namespace) -> list[str]:
 
 
 def read_settings(args: argparse.Namespace, warn: Callable[[str], None]) -> Settings:
-    """The settings that apply along with these options. What git runs reads none beside an option that names a password,
-    so a repository cannot name one."""
+    """The settings that apply along with these options. What git runs reads none beside an option that names a
+    password, so a repository cannot name one."""
     is_named = args.vault_id or args.vault_password_file
     return Settings(warn, are_read=not (args.for_git and is_named))
