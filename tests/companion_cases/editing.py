@@ -216,7 +216,7 @@ MISREAD = {
     "b: !vault &c x\n": f"line 1: {CUT_SHORT}",
     "b: !vault x #y\n": f"line 1: {CUT_SHORT}",
     "b: !vault x\n  y # z\n": f"line 1: {CUT_SHORT}",
-    "b: !vault x\n              # y\n": "write each as `NAME: !vault |`, with comments above it",
+    "b: !vault x\n              # y\n": "its values cannot be written where they are; write each as `NAME: !vault |`",
     "b: !vault # x\n  y\n": f"line 1: {CUT_SHORT}",
     "\ufeff%TAG ! !x\n---\nb: !vault x\n": "line 1: `%TAG` may make `!vault` another tag",
     "b: !vault $ANSIBLE_VAULT_TOKEN x\n": "line 1: b begins like a vault ($ANSIBLE_VAULT), but is not one",

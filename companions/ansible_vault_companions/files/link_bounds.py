@@ -9,6 +9,7 @@ from __future__ import annotations
 
 import errno
 import os
+import stat
 from functools import lru_cache
 
 from ansible_vault_companions.quoting import escape, quote_word
@@ -91,12 +92,20 @@ def list_links(path: str) -> tuple[str, list[str]]:
             target = os.path.dirname(target)
         elif name not in ("", os.curdir):
             target = os.path.join(target, name)
-            if os.path.islink(target):
+            if _is_link(target):
                 links.append(target)
                 text = os.readlink(target)
                 target = "/" if os.path.isabs(text) else os.path.dirname(target)
                 names += text.split(os.sep)[::-1]
     return target, links
+
+
+def _is_link(path: str) -> bool:
+    """Whether there is a link at a path. Python's own `islink` also says no if the system cannot say."""
+    try:
+        return stat.S_ISLNK(os.lstat(path).st_mode)
+    except (FileNotFoundError, NotADirectoryError):
+        return False
 
 
 def _require_own(link: str, target: str) -> None:
