@@ -276,8 +276,8 @@ def test_nested_repository(place: Place) -> None:
     place.shell("git init -q project; git init -q project/clone; ln -s a.yml project/clone/own.yml")
     (place.tree / "project/clone/l").symlink_to("../a.yml")
     for command, (_, content, _, status) in COMMANDS.items():
-        place.put("project/a.yml", content)
-        place.put("project/clone/a.yml", content)
+        for name in ("project/a.yml", "project/clone/a.yml", "good.yml"):
+            place.put(name, content)
         outcome = try_command(place, command, "clone/l")
         if command in SHOWING:
             check_followed(command, outcome, "project/a.yml")
