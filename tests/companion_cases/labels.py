@@ -281,12 +281,12 @@ each_rekey = pytest.mark.parametrize("line", REKEYS.values(), ids=REKEYS)
 
 
 def rekey(place: Place, line: str, row: Rekeyed, *options: str) -> Done:
-    """Make the vault, and run a rekey of it. The new password takes precedence over the label of the settings."""
+    """Make the vault, and rekey it with old passwords of the settings. The new one goes before their label."""
     place.put("v", sealed(row.vault.password, TEXT, row.vault.label))
+    old = {"prod": "prod"} | ({"dev": row.of_dev} if row.of_dev else {})
     variables = {"ANSIBLE_VAULT_ENCRYPT_IDENTITY": "prod"}
-    if row.of_dev:
-        variables["ANSIBLE_VAULT_IDENTITY_LIST"] = f"dev@{place.secret(row.of_dev)}"
-    words = [*place.by_id("prod", "prod"), *place.by_id("dev", "new", "new-"), *options]
+    variables["ANSIBLE_VAULT_IDENTITY_LIST"] = ",".join(f"{label}@{place.secret(name)}" for label, name in old.items())
+    words = [*place.by_id("dev", "new", "new-"), *options]
     return place.shell(line.format(" ".join(words)), **variables)
 
 

@@ -52,8 +52,8 @@ WRITTEN = {
     "--output a.yml a.yml": "a.yml",
 }
 WRITTEN |= {"--output link.yml a.yml": "out.yml"}
-# The settings beside options, where the program runs in place of the companion, and where it does not.
-BESIDE = {"no settings": b"", "settings that are switched off": b"[defaults]\nvault_password_file = /none\n"}
+# The settings beside options.
+BESIDE = {"no settings": b"", "another password": b"[defaults]\nvault_password_file = ../secrets/prod\n"}
 
 
 @pytest.mark.parametrize("settings", BESIDE.values(), ids=BESIDE)

@@ -115,7 +115,7 @@ class Settled(NamedTuple):
 
 SETTLED = {
     "a list": Settled(files={"ansible.cfg": LIST.format("dev@./script")}),
-    "a variable with a relative path": Settled(variables={"ANSIBLE_VAULT_PASSWORD_FILE": "script"}),
+    "a relative path, as direnv sets it": Settled(variables={"ANSIBLE_VAULT_PASSWORD_FILE": "script"}),
     "$PWD": Settled(variables={"ANSIBLE_VAULT_IDENTITY_LIST": "dev@$PWD/script"}),
     "a file of the user's own": Settled(files={"../.ansible.cfg": FILE.format("{{CWD}}/script")}),
     "a named file": Settled(files={"far/my.cfg": FILE.format("../script")}, variables={"ANSIBLE_CONFIG": "far/my.cfg"}),
