@@ -216,7 +216,7 @@ def test_what_would_be_read_otherwise(place: Place) -> None:
     """YAML reads no longer key than 1,024 characters, so a new envelope, whose salt is longer, does not fit here."""
     vault = seal(PASSWORDS["old"], b"x" * 180, salt=b"s").replace(b"\n", b"\\n")
     place.put("vars.yml", before := b'{!vault "%s": 1}\n' % vault)
-    why = "vars.yml: its values cannot be written where they are; write each as `NAME: !vault |`, "
+    why = "vars.yml: its values cannot be written where they are; write each as `NAME: !vault |`, and indent "
     ended("the rotation", place.run(ROTATE, *to_new(place), "vars.yml"), 1, why, summary(0, failed=1))
     assert place.get("vars.yml") == before, "it stays"
 

@@ -136,10 +136,10 @@ class Loader:
             raise Refused(ONE_SIDE.format(make_pathspec(target)))
         ours, theirs = YamlText(versions.ours, self.decrypt), YamlText(versions.theirs, self.decrypt)
         text = join_lines(Versions(ours.shown.data, self._show_base(versions.base), theirs.shown.data))
-        choice = self.choice._replace(of_conflict=self.chosen)
-        draft = self._make_yaml_draft(target, content, [ours, theirs], text, choice)
+        draft = self._make_yaml_draft(target, content, [ours, theirs], text)
         # Where both sides have a text, one that has changed its envelope comes first.
         draft.opened.sort(key=lambda old: old.scalar in versions.base)
+        draft.choice = draft.choice._replace(of_conflict=self.chosen)
         return draft
 
     def _show_base(self, base: bytes) -> bytes:
@@ -153,12 +153,10 @@ class Loader:
         if not detection.may_have_envelope(content):
             raise Refused(NOTHING_TO_EDIT)
         side = YamlText(content, self.decrypt)
-        return self._make_yaml_draft(target, content, [side], side.shown.data, self.choice)
+        return self._make_yaml_draft(target, content, [side], side.shown.data)
 
-    def _make_yaml_draft(
-        self, target: str, content: bytes, sides: list[YamlText], plaintext: bytes, choice: Choice
-    ) -> YamlDraft:
-        draft = YamlDraft(target, content, sides, plaintext, choice)
+    def _make_yaml_draft(self, target: str, content: bytes, sides: list[YamlText], plaintext: bytes) -> YamlDraft:
+        draft = YamlDraft(target, content, sides, plaintext, self.choice)
         if not draft.tagged:
             raise Refused(NOTHING_TO_EDIT)
         for old in draft.opened:

@@ -23,7 +23,9 @@ from ansible_vault_companions.envelopes.yaml_nodes import BINARY, NotYaml, read_
 from ansible_vault_companions.quoting import escape
 from ansible_vault_companions.refusals import Refused
 
-NOT_WRITABLE = "its values cannot be written where they are; write each as `NAME: !vault |`, with comments above it"
+NOT_WRITABLE = (
+    "its values cannot be written where they are; write each as `NAME: !vault |`, and indent comments below them less"
+)
 
 # How many values a message lists if a typed path leads nowhere.
 MOST_LISTED = 20
