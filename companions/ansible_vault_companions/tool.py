@@ -20,7 +20,13 @@ from ansible_vault_companions.envelopes.header import (
     measure_padded,
     read_label,
 )
-from ansible_vault_companions.passwords.labels import Policy, describe_attempts, order_to_try, require_label
+from ansible_vault_companions.passwords.labels import (
+    Policy,
+    describe_attempts,
+    order_to_try,
+    require_label,
+    require_named,
+)
 from ansible_vault_companions.passwords.password import Password
 from ansible_vault_companions.quoting import escape
 from ansible_vault_companions.refusals import Refused
@@ -81,6 +87,12 @@ class Decryption:
     def require_label(self, where: str = "") -> None:
         """Refuses a text that its label does not allow to encrypt again with this password."""
         require_label(self.password, self.key.label, self.policy, where)
+
+    def require_key(self, where: str = "") -> Key:
+        """The key for another text in its place. Refuses one that may not encrypt that."""
+        self.require_label(where)
+        require_named(self.password, self.policy, where)
+        return self.key
 
 
 def _name_damage(envelope: bytes, fault: Refused) -> Refused:

@@ -133,22 +133,18 @@ def test_files_that_are_meant(place: Place) -> None:
 
 
 def test_git(place: Place, git: None) -> None:
-    """If a stranger's file has the name of an option in git's settings, the message names it, and git merges."""
+    """A stranger's file with the name of an option that --install has written changes nothing: each is one word."""
     place.shell("git init -q && git config user.name a && git config user.email b")
     place.put(".gitattributes", b"*.yml diff=ansible-vault merge=ansible-vault\n")
-    place.put("a.yml", sealed("old"))
-    silent("the setup", place.shell(f"{HOOK} --install --vault-password-file {place.secret('old')} > ../said"))
+    place.put("a.yml", sealed("old", b"one\n\n\n"))
+    place.shell(f"{HOOK} --install --vault-password-file {place.secret('old')} > ../said")
     place.shell("git add . && git commit -qm one && git checkout -qb other")
-    place.put("a.yml", sealed("old", b"theirs\n"))
+    place.put("a.yml", sealed("old", b"one\n\n\ntheirs\n"))
     place.put("--vault-password-file", b"")
     place.shell("git add . && git commit -qm two && git checkout -q -")
-    place.put("a.yml", sealed("old", b"ours\n"))
+    place.put("a.yml", sealed("old", b"ours\n\n\n"))
     place.shell("git commit -qam three")
-    place.put("--vault-password-file", b"")
-    why = "--vault-password-file: a file has this name; write ./--vault-password-file for the file"
-    ended("a diff", place.shell("git diff HEAD~1"), 128, f"{TEXTCONV}: error: {why}")
-    (place.tree / "--vault-password-file").unlink()
-    done = place.shell("git merge other; git diff --name-only --diff-filter=U")
-    assert "a.yml" in done.stdout.splitlines(), done
-    found = place.get("a.yml")
-    assert b"<<<<<<<" in found and b">>>>>>>" in found, found
+    ended("a merge", place.shell("git merge other"), 0)
+    assert (place.tree / "--vault-password-file").exists()
+    assert decrypted("old", place.get("a.yml")) == b"ours\n\n\ntheirs\n"
+    ended("a diff", place.shell("git diff HEAD~1"), 0, "+theirs\n")

@@ -19,6 +19,8 @@ DEV, PROD = "--vault-id dev@../secrets/dev", "--vault-id prod@../secrets/prod"
 LIST = "ANSIBLE_VAULT_IDENTITY_LIST=dev@../secrets/dev,prod@../secrets/prod"
 SETTING = "ANSIBLE_VAULT_PASSWORD_FILE=../secrets/old"
 TYPED = "printf 'the password old\\n'"
+TRACK = "git init -q; cp ../secrets/old pass; git add pass"
+CONFIGURE = "printf '[defaults]\\nvault_password_file = script\\n' > ansible.cfg"
 
 
 class Lines(NamedTuple):
@@ -115,8 +117,13 @@ LINES = {
     ),
     "a link that leads out": Lines(
         [f"ln -s a.yml c.yml; AV encrypt {OLD} --output c.yml plain.yml"],
-        [f"ln -s ../plain.yml c.yml; AV encrypt {OLD} c.yml"],
+        [f"git init -q; ln -s ../plain.yml c.yml; AV encrypt {OLD} c.yml"],
     ),
+    "a password file that git tracks": Lines(
+        [f"{TRACK}; git rm -q --cached pass; AV view --vault-password-file pass a.yml"],
+        [f"{TRACK}; AV view --vault-password-file pass a.yml"],
+    ),
+    "a script in the repository": Lines([f"{CONFIGURE}; AV view a.yml"], [f"git init -q; {CONFIGURE}; AV view a.yml"]),
     "`ANSIBLE_CONFIG=/dev/null`": Lines(differ=[f"ANSIBLE_CONFIG=/dev/null AV view {OLD} a.yml"]),
     "any number of passwords": Lines(differ=[f"AV view {' '.join([OLD] * 17)} a.yml"]),
 }

@@ -93,15 +93,15 @@ def test_settings(place: Place, setting: str) -> None:
     prepare(place)
     rest = SETTINGS[setting]
     if rest is not None:
-        line = f"{MERGE} {' '.join(place.by_file('old'))} %O %A %B %P {rest}"
+        line = f"{MERGE} {'='.join(place.by_file('old'))} %O %A %B %P {rest}"
         place.run("git", "config", "merge.ansible-vault.driver", line)
-    place.wrap_tool("exit 4")
+    place.wrap_tool('[ "$1" = --version ] || exit 4')
     check_conflict(place)
     sides = (sealed("old", OURS), sealed("old", THEIRS))
     assert place.get("a.yml") == b"<<<<<<< ours\n%s=======\n%s>>>>>>> theirs\n" % sides
     if setting != "by hand":
         place.shell("git merge --abort")
-        replace_driver(place, f'{place.companions}/{MERGE} "$1" "$2" missing "$4" "$5" "$6"')
+        replace_driver(place, f'{place.companions}/{MERGE} "$1" missing "$3" "$4" "$5"')
         check_conflict(place)
 
 

@@ -90,9 +90,8 @@ COMMANDS = {
     "rotate": Command([ROTATE, "{old}", "{new}"], VAULT, writes=True),
     "a dry run": Command([ROTATE, "{old}", "{new}", "--dry-run"], VAULT, writes=False, status=1),
 }
-# Those whose file the program itself opens, and those that show a typed file wherever it is.
-BY_PROGRAM = ("view", "decrypt to a stream")
-SHOWING = (*BY_PROGRAM, "several views", "textconv", "textconv of a value")
+# Those that show a typed file wherever it is.
+SHOWING = ("view", "decrypt to a stream", "several views", "textconv", "textconv of a value")
 # What a companion that writes nothing prints of a file that it may read.
 SHOWN = {"check": "decrypted by", "a dry run": "would be rotated"}
 
@@ -182,7 +181,7 @@ def test_each_link(place: Place, name: str, is_repository: bool, subtests: SubTe
             if why and (command not in SHOWING or why == LOOP):
                 check_refused(command, outcome, f": {kind.path}: {why}", COMMANDS[command].status or 1)
             elif kind.file not in FILES and (command != "edit" or "/new.yml" not in kind.file):
-                check_refused(command, outcome, MISSING, 3 if command in BY_PROGRAM else 1)
+                check_refused(command, outcome, MISSING, 1)
             elif "/.git/" in kind.file:
                 check_refused(command, outcome, f": {kind.path}: there is no directory ", 1)
             else:
@@ -485,15 +484,14 @@ def test_swapped(place: Place, swap: str) -> None:
     assert {*list_contents(place).values()} == {sealed("old")}, "nothing else has changed"
 
 
-def test_swapped_before_the_program_runs(place: Place) -> None:
-    """The program that the alias becomes opens the file to which the link led when it was judged."""
+def test_link_to_devices(place: Place) -> None:
+    """Another user's link to a directory counts no more if it leads to open files or devices."""
+    needs_root()
+    (place.tree / "theirs").symlink_to("/proc/self/fd")
+    os.chown(place.tree / "theirs", NOBODY, -1, follow_symlinks=False)
     place.put("a.yml", sealed("old"))
-    place.put("../outside.yml", sealed("old", b"another text\n"))
-    (place.tree / "l.yml").symlink_to("a.yml")
-    place.wrap_tool("ln -sf ../outside.yml l.yml")
-    done = place.run(WITH, "view", *place.by_file("old"), "l.yml")
-    check_answer("the file that the link had", done, output=TEXT.decode())
-    assert os.readlink(place.tree / "l.yml") == "../outside.yml"
+    done = place.run(WITH, "decrypt", *place.by_file("old"), "--output", "theirs/1", "a.yml")
+    ended("it", done, 1, f"{place.tree}/theirs is another user's link")
 
 
 def test_under_git(place: Place) -> None:

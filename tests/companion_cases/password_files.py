@@ -6,8 +6,8 @@ from typing import NamedTuple
 import pytest
 
 from companion_cases import CHANGE, CHECK, EDIT, HOOK, MERGE, NOBODY, PASSWORDS, ROTATE, TEXT, TEXTCONV, WITH, Place
-from companion_cases import decrypted, ended, sealed, silent, summary, versions
-from companion_cases.repository import BASE, OURS, THEIRS, add_and_commit, under_git
+from companion_cases import block, decrypted, ended, sealed, silent, summary, versions
+from companion_cases.repository import BASE, OURS, THEIRS, add_and_commit, fork, under_git
 from lib.needs import needs_root
 
 pytestmark = pytest.mark.usefixtures("git")
@@ -194,7 +194,7 @@ KEYS = {"vault_password_file": "vault-pass.sh", "vault_identity_list": "default@
 @pytest.mark.parametrize("named", NAMED.values(), ids=NAMED)
 def test_tracked_script(place: Place, named: Named, key: str) -> None:
     """A script that asks a password manager may be tracked, since it has no password. It runs if the user has named it,
-    and not if a stranger may have."""
+    and not if a stranger may have, whatever git says."""
     begin(place)
     place.script("touch started; echo the password old", "tools/manager")
     place.put("vault-pass.sh", b"#!/bin/sh\ncd ..\nexec manager get vault\n", 0o755)
@@ -204,7 +204,10 @@ def test_tracked_script(place: Place, named: Named, key: str) -> None:
     if named.runs:
         check_each(place, named.words, "vault-pass.sh")
     else:
-        why = "git tracks this script, and only ./ansible.cfg names it; to run it, name it with an option or in the "
+        why = "this script is in a repository, and only ./ansible.cfg names it; to run it, name it with an option or "
+        ended("view", place.run(WITH, "view", "a.vault.yml"), 1, why)
+        # git then does not say what it tracks.
+        place.script("exit 128", "tools/git")
         ended("view", place.run(WITH, "view", "a.vault.yml"), 1, why)
     assert was_started(place) == named.runs
 
@@ -214,3 +217,51 @@ def test_without_git(place: Place) -> None:
     begin(place)
     place.script("exit 127", "tools/git")
     ended("view", place.run(WITH, "view", "--vault-password-file=.vault_pass", "a.vault.yml"), 0, TEXT.decode())
+
+
+KNOWN = b"[defaults]\nvault_identity_list = prod@../secrets/dev\n"
+ONLY_DECRYPTS = (
+    "prod@../secrets/dev decrypts it, which only ./ansible.cfg names; to encrypt with it, name it with an option"
+)
+
+
+def test_password_of_a_stranger(place: Place) -> None:
+    """Beside an option, what only ./ansible.cfg names decrypts and encrypts nothing: a stranger, who knows the password,
+    would read what is typed next. Without an option, it is the user's own."""
+    begin(place)
+    before = {"b.vault.yml": sealed("dev", label="prod"), "c.yml": block("dev", label="prod", name="c")}
+    for name, content in before.items():
+        place.put(name, content)
+    place.put("ansible.cfg", KNOWN)
+    option = place.by_id("prod", "old")
+    ended("check", place.run(CHECK, *option, "b.vault.yml", "c.yml"), 0, "2 decrypted, 0 failed")
+    editor = place.script('sed -i s/correct/a/ "$1"', "editor")
+    for name, content in before.items():
+        ended(name, place.run(EDIT, *option, name, EDITOR=editor), 1, ONLY_DECRYPTS)
+        assert place.get(name) == content
+    ended("a value", place.run_on(b"x", EDIT, *option, "--value", "c", "c.yml"), 1)
+    for name in before:
+        ended("by the settings", place.run(EDIT, name, EDITOR=editor), 0)
+
+
+def test_conflict_with_a_stranger(place: Place) -> None:
+    """A conflict whose other side has a password that only ./ansible.cfg names is not resolved under that."""
+    under_git(place, "")
+    ours, theirs = sealed("old", OURS, "prod"), sealed("dev", THEIRS, "prod")
+    fork(place, {"a.yml": sealed("old", BASE, "prod")}, {"a.yml": ours}, {"a.yml": theirs, "ansible.cfg": KNOWN})
+    place.shell("git merge theirs")
+    before = place.get("a.yml")
+    editor = place.script('sed -i "/[<=>|]/d" "$1"', "editor")
+    ended("the edit", place.run(EDIT, *place.by_id("prod", "old"), "a.yml", EDITOR=editor), 1, ONLY_DECRYPTS)
+    assert place.get("a.yml") == before
+
+
+def test_owner_of_an_output(place: Place) -> None:
+    """Who has made the file of --output first, in a directory such as /tmp, does not own the plaintext in it."""
+    needs_root()
+    place.put("a.yml", sealed("old"))
+    place.put("out.yml", b"")
+    os.chown(place.tree / "out.yml", NOBODY, NOBODY)
+    silent("it", place.run(WITH, "decrypt", *place.by_file("old"), "--output", "out.yml", "a.yml"))
+    about = (place.tree / "out.yml").stat()
+    assert (about.st_uid, about.st_mode & 0o777, place.get("out.yml")) == (0, 0o600, TEXT)

@@ -53,8 +53,8 @@ def test_json_of_check(place: Place) -> None:
     assert [describe(each) for each in results] == [
         ("./a.yml", 3, "x[0].y", "default", "other label"),
         ("./b.yml", None, None, "prod", "decrypted"),
-        ("./b.yml", 2, "a", "prod", "decrypted"),
-        ("./b.yml", line + 1, '"b.c"', "dev", "other label"),
+        ("./b.yml", 2, None, "prod", "decrypted"),
+        ("./b.yml", line + 1, None, "dev", "other label"),
         ("./c.yml", 2, "secret", "new", "other label"),
         ("./c.yml", DAMAGED_LINE, "twice", "old", "other label"),
         ("./d.md", 4, None, "old", "other label"),
@@ -82,8 +82,8 @@ def test_json_of_rotate(place: Place) -> None:
     results = [[describe(each) for each in read(run) if each["path"] != "./a.yml"] for run in runs]
     for what, of_run in zip(("to be rotated", "rotated", "kept"), results):
         assert of_run[:3] == [
-            ("./b.yml", 2, "a", "prod", what),
-            ("./b.yml", results[0][1][1], '"b.c"', "dev", "other label"),
+            ("./b.yml", 2, None, "prod", what),
+            ("./b.yml", results[0][1][1], None, "dev", "other label"),
             ("./b.yml", None, None, "prod", what),
         ]
         failed = [path for path, *_, result in of_run if result == "failed"]

@@ -17,7 +17,7 @@ def resolve_to_read(path: str) -> str:
     """The real path of a file that stays as it is."""
     try:
         return link_bounds.resolve_to_read(path)
-    except Refused as fault:
+    except (Refused, OSError) as fault:
         raise Refused(refusals.describe_refusal(path, fault)) from None
 
 
@@ -26,7 +26,7 @@ def resolve_new(path: str) -> str:
     try:
         target = link_bounds.resolve_file(path)
         link_bounds.require_folder(target)
-    except Refused as fault:
+    except (Refused, OSError) as fault:
         raise Refused(refusals.describe_refusal(path, fault)) from None
     return target
 

@@ -56,7 +56,8 @@ def _replace_output(target: str, content: bytes, is_private: bool) -> None:
         # Imported here, since most runs replace no file.
         from ansible_vault_companions.files import replacing
 
-        replacing.replace(target, content, reading.read(target), is_private=is_private)
+        # Anybody may have made the file, in a directory such as /tmp, and its owner could read plaintext.
+        replacing.replace(target, content, reading.read(target), is_private, keeps_owner=not is_private)
 
 
 def _is_written_in_place(target: str) -> bool:

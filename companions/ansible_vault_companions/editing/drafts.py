@@ -6,7 +6,7 @@ from dataclasses import dataclass
 from functools import partial
 from typing import Protocol
 
-from ansible_vault_companions.editing.encrypting_password import Choice, keep_key
+from ansible_vault_companions.editing.encrypting_password import Choice
 from ansible_vault_companions.editing.matching import describe_place
 from ansible_vault_companions.editing.yaml_draft import ENCRYPTED, Saved, YamlDraft, YamlText
 from ansible_vault_companions.envelopes import conflicts, detection
@@ -122,7 +122,7 @@ class Loader:
             return self._load_conflict(target, content, versions)
         if content.startswith(MAGIC):
             decrypted = self.decrypt(content)
-            return VaultDraft(target, content, keep_key(decrypted), decrypted.text)
+            return VaultDraft(target, content, decrypted.require_key(), decrypted.text)
         return self._load_values(target, content)
 
     def _load_conflict(self, target: str, content: bytes, versions: Versions) -> Draft:
@@ -160,7 +160,7 @@ class Loader:
         if not draft.tagged:
             raise Refused(NOTHING_TO_EDIT)
         for old in draft.opened:
-            keep_key(old.decrypted, f"{describe_place(old.value)}: ")
+            old.decrypted.require_key(f"{describe_place(old.value)}: ")
         if len(draft.faults) == len(draft.tagged) and self.choice.label is None:
             value, why = draft.faults[0]
             raise Refused(f"{describe_place(value)}: {why}{TO_ADD}")

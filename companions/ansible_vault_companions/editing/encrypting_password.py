@@ -16,19 +16,13 @@ from ansible_vault_companions.passwords.labels import choose_to_encrypt, describ
 from ansible_vault_companions.passwords.password import Password
 from ansible_vault_companions.quoting import escape
 from ansible_vault_companions.refusals import Refused
-from ansible_vault_companions.tool import Decryption, Key
+from ansible_vault_companions.tool import Key
 
 GETS = "new values get the label {}; --encrypt-vault-id chooses another"
 IS_ASKED = "the label of a new value will be asked for; --encrypt-vault-id chooses one"
 IS_REFUSED = "new values will be refused: {}"
 UNCLEAR = "{} may be new, changed or moved, and the password depends on which; save one change at a time"
 SIDES_DIFFER = "{} has different passwords in the two sides; choose one with --encrypt-vault-id"
-
-
-def keep_key(decrypted: Decryption, where: str = "") -> Key:
-    """The key of a text that may change. Refuses one that its label does not allow to encrypt again."""
-    decrypted.require_label(where)
-    return decrypted.key
 
 
 class Choice(NamedTuple):

@@ -123,14 +123,21 @@ def _make_in(place: str, name: str, text: bytes) -> str:
     path = os.path.join(folder, name)
     try:
         require_own_folder(folder)
-        with open(path, "xb", opener=lambda file, flags: os.open(file, flags, 0o600)) as file:
-            file.write(text)
+        _write_new(path, text)
     except OSError:
-        with suppress(OSError):
-            os.unlink(path)
         os.rmdir(folder)
         raise
     return folder
+
+
+def _write_new(path: str, text: bytes) -> None:
+    with open(path, "xb", opener=lambda file, flags: os.open(file, flags, 0o600)) as file:
+        try:
+            file.write(text)
+            file.flush()
+        except OSError:
+            os.unlink(path)
+            raise
 
 
 def _list_files(folder: str) -> list[str]:

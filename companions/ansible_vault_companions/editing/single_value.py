@@ -6,7 +6,7 @@ import errno
 import os
 import re
 
-from ansible_vault_companions.editing.encrypting_password import Choice, keep_key
+from ansible_vault_companions.editing.encrypting_password import Choice
 from ansible_vault_companions.envelopes import conflicts
 from ansible_vault_companions.envelopes.header import MAGIC
 from ansible_vault_companions.envelopes.key_paths import KeyPath, parse_path, quote_key
@@ -60,7 +60,7 @@ class SingleValue:
         else:
             decrypted = decrypt(self.value.require_readable())
             # If the password has another label than the value, the new text may be for other readers.
-            self.key, self.before = keep_key(decrypted), decrypted.text
+            self.key, self.before = decrypted.require_key(), decrypted.text
 
     def set_text(self, tool: Tool) -> None:
         """Sets it to standard input."""

@@ -124,8 +124,8 @@ def _find_owner(path: str) -> int:
 
 def _is_open_file(path: str) -> bool:
     """Whether only the system can follow a path, such as /dev/stdin."""
-    folder = os.path.realpath(os.path.dirname(_make_absolute(path)))
-    return folder == "/dev" or folder.startswith("/proc/") and folder.endswith("/fd")
+    folder = os.path.normpath(os.path.dirname(_make_absolute(path)))
+    return folder in ("/dev", "/dev/fd") or folder.startswith("/proc/") and folder.endswith("/fd")
 
 
 def _make_absolute(path: str) -> str:

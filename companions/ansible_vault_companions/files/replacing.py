@@ -23,14 +23,16 @@ class NotSynced(Refused):
     """A file is replaced, but perhaps not on the disk."""
 
 
-def replace(target: str, content: bytes, before: bytes | None, is_private: bool = False) -> None:
+def replace(
+    target: str, content: bytes, before: bytes | None, is_private: bool = False, keeps_owner: bool = True
+) -> None:
     """Replaces the content of a file with this real path. Refuses if the content is no longer `before`, or if a link is
     in its path by now. A private file is readable only by its owner, whatever its mode was. Raises NotSynced if the old
     content may come back after a power failure."""
     with signals.Postponement(), _open_old(target) as old:
         # What has taken the place of the file gets no say in who may read the new one.
         _require_same(target, old, before)
-        beside = write_new(os.path.dirname(target), content, old, is_private)
+        beside = write_new(os.path.dirname(target), content, old, is_private, keeps_owner)
         try:
             _require_same(target, old, before)
             os.replace(beside, target)
@@ -85,7 +87,12 @@ def _is_at(target: str, old: FileIO | None) -> bool:
 
 
 def write_new(
-    folder: str, content: bytes, like: FileIO | None = None, is_private: bool = False, prefix: str = PREFIX
+    folder: str,
+    content: bytes,
+    like: FileIO | None = None,
+    is_private: bool = False,
+    keeps_owner: bool = True,
+    prefix: str = PREFIX,
 ) -> str:
     """Writes a new file, and returns its path. Only its owner may read it, unless it is to be like another one."""
     try:
@@ -97,7 +104,7 @@ def write_new(
             file.write(content)
             file.flush()
             if like is not None:
-                _copy_metadata(descriptor, like.fileno(), is_private)
+                _copy_metadata(descriptor, like.fileno(), is_private, keeps_owner)
             os.fsync(descriptor)
     except BaseException:
         os.unlink(path)
@@ -105,12 +112,12 @@ def write_new(
     return path
 
 
-def _copy_metadata(descriptor: int, like: int, is_private: bool) -> None:
+def _copy_metadata(descriptor: int, like: int, is_private: bool, keeps_owner: bool) -> None:
     """Copies owner, mode and extended attributes such as ACLs; to a private file, the owner alone."""
     old, new = os.fstat(like), os.fstat(descriptor)
     if old.st_nlink > 1:
         raise Refused(f"it has {old.st_nlink} names (hard links); replace the others with symbolic links first")
-    if (old.st_uid, old.st_gid) != (new.st_uid, new.st_gid):
+    if keeps_owner and (old.st_uid, old.st_gid) != (new.st_uid, new.st_gid):
         try:
             os.fchown(descriptor, old.st_uid, old.st_gid)
         except PermissionError as fault:

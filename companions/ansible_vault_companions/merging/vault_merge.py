@@ -47,7 +47,7 @@ class VaultMerge:
 def _decrypt_side(side: str, decrypt: Decrypt, vault: bytes) -> Decryption:
     try:
         decrypted = decrypt(vault)
-        decrypted.require_label()
+        decrypted.require_key()
     except Refused as fault:
         raise Refused(f"{side}: {fault}") from None
     return decrypted

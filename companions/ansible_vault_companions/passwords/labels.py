@@ -27,7 +27,12 @@ class Policy:
     """What labels mean to the passwords of a command line."""
 
     def __init__(
-        self, requires_match: bool, any_label: bool, usual_label: str | None = None, only: bytes | None = None
+        self,
+        requires_match: bool,
+        any_label: bool,
+        usual_label: str | None = None,
+        only: bytes | None = None,
+        has_options: bool = False,
     ) -> None:
         # Whether a password may decrypt only envelopes with its label.
         self.requires_match = requires_match
@@ -36,6 +41,8 @@ class Policy:
         self.only = only
         # The label that the settings choose for encryption.
         self.usual_label = usual_label
+        # Whether an option names a password.
+        self.has_options = has_options
 
 
 # For what is not decrypted.
@@ -50,12 +57,13 @@ def make_policy(
     named = prefer_options(passwords)
     contents = {password.content for password in named}
     label = settings.find_encrypt_label()
-    is_free = all(password.source.is_setting for password in named)
+    has_options = not all(password.source.is_setting for password in named)
     return Policy(
         requires_match or settings.requires_match() and not any_label,
         any_label,
-        label if is_free or label and list_with_label(named, label) else None,
+        None if has_options and label and not list_with_label(named, label) else label,
         contents.pop() if len(contents) == 1 else None,
+        has_options,
     )
 
 
@@ -110,6 +118,16 @@ def require_label(password: Password, label: str, policy: Policy, where: str = "
             f"{where}its label is {escape(label)}{_explain_default(label)}, but {escape(password.source.text)}, a "
             f"password with the label {own}, decrypts it; unless somebody changed the label or copied the text here, "
             f"give it the label {own} with `{RELABEL}`, or accept it with {ANY_LABEL}"
+        )
+
+
+def require_named(password: Password, policy: Policy, where: str = "") -> None:
+    """Refuses to encrypt, beside an option that names a password, with one that only ./ansible.cfg names: that may be a
+    stranger's, who knows it."""
+    if policy.has_options and password.source.is_of_folder:
+        raise Refused(
+            f"{where}{escape(password.source.text)} decrypts it, which only ./ansible.cfg names; to encrypt with it, name "
+            "it with an option, too"
         )
 
 

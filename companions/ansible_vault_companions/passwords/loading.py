@@ -9,7 +9,6 @@ import os
 import stat
 
 from ansible_vault_companions.envelopes.header import MAGIC
-from ansible_vault_companions.files import link_bounds
 from ansible_vault_companions.limits import LONGEST_PASSWORD
 from ansible_vault_companions.output import write_error
 from ansible_vault_companions.passwords import working_tree
@@ -106,7 +105,7 @@ def _read(source: Source, asking: Asking, for_git: bool) -> bytes:
     mode = os.stat(path).st_mode
     is_program = stat.S_ISREG(mode) and mode & 0o111 > 0
     if for_git:
-        working_tree.refuse_within(path, link_bounds.find_current_folder())
+        working_tree.refuse_within(path)
     working_tree.refuse_tracked(path, is_program, is_named=not source.is_of_folder)
     if is_program:
         from ansible_vault_companions.passwords import scripts

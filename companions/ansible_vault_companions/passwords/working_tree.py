@@ -3,6 +3,7 @@
 from __future__ import annotations
 
 import os
+from contextlib import suppress
 
 from ansible_vault_companions.files import link_bounds
 from ansible_vault_companions.quoting import escape
@@ -11,25 +12,33 @@ from ansible_vault_companions.refusals import Refused
 REPLACEABLE = "it is in the repository {}, where a commit can replace it; move it out, for example to ~/.vault_pass"
 TRACKED = "git tracks {}: everybody who has the repository has this password, or can replace it"
 NOT_NAMED = (
-    "git tracks this script, and only ./ansible.cfg names it; to run it, name it with an option or in the environment"
+    "this script is in a repository, and only ./ansible.cfg names it; to run it, name it with an option or in the "
+    "environment"
 )
 
 
-def refuse_within(path: str, folder: str) -> None:
-    """Refuses a password file that is in the repository of a directory, or to which a link in that leads."""
-    top = link_bounds.find_repository(folder)
+def refuse_within(path: str) -> None:
+    """Refuses a password file that is in the repository of the current directory, or to which a link in that leads. A
+    directory that is gone is in none."""
+    with suppress(FileNotFoundError):
+        _refuse_within(path, link_bounds.find_repository(os.getcwd()))
+
+
+def _refuse_within(path: str, top: str | None) -> None:
     if top and any(link_bounds.is_within(place, top) for place in _list_places(path)):
         raise Refused(REPLACEABLE.format(escape(top)))
 
 
 def refuse_tracked(path: str, is_program: bool, is_named: bool) -> None:
-    """Refuses a password file that git tracks, or to which a link leads that git tracks. A program may be tracked if
-    the user has named it."""
+    """Refuses a password file that git tracks, or to which a link leads that git tracks. A program may be in a
+    repository if the user has named it."""
     if is_program and is_named:
         return
     for place in _list_places(path):
+        if is_program and link_bounds.find_repository(os.path.dirname(place)):
+            raise Refused(NOT_NAMED)
         if _is_tracked(place):
-            raise Refused(NOT_NAMED if is_program else TRACKED.format(escape(place)))
+            raise Refused(TRACKED.format(escape(place)))
 
 
 def _list_places(path: str) -> list[str]:
