@@ -291,6 +291,25 @@ def test_nested_repository(place: Place) -> None:
 
 
 @pytest.mark.usefixtures("git")
+def test_shared_vault(place: Place) -> None:
+    """A team links a shared vault in. In a submodule, it is the repository's own. Elsewhere, it is shown through the
+    link, and whoever changes it names the file."""
+    place.shell("git init -q shared; git init -q project; git init -q project/shared")
+    for name in ("shared/vault.yml", "project/shared/vault.yml"):
+        place.put(name, VAULT)
+    (place.tree / "project/in.yml").symlink_to("shared/vault.yml")
+    (place.tree / "project/out.yml").symlink_to("../shared/vault.yml")
+    for name in ("in.yml", "out.yml"):
+        done = place.run(WITH, "view", *place.by_file("old"), name, folder="project")
+        check_answer(name, done, output=TEXT.decode())
+    rotate = [ROTATE, *to_new(place)]
+    done = place.run(*rotate, "out.yml", folder="project")
+    ended("out.yml", done, 1, f"a link leads out of {place.tree}/project; name {place.tree}/shared/vault.yml instead")
+    for path in ("in.yml", f"{place.tree}/shared/vault.yml"):
+        ended(path, place.run(*rotate, path, folder="project"), 0, summary(1))
+
+
+@pytest.mark.usefixtures("git")
 def test_link_into_a_repository(place: Place) -> None:
     """A user's own link leads into a repository, whose links still must not lead out of it."""
     place.shell("git init -q clone")
