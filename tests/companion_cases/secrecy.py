@@ -79,7 +79,7 @@ RUNS = {
     f"{ROTATE} {OLD} {NEW} a.yml": {PIPE},
     f"{MERGE} {OLD} ../versions/base-a.yml a.yml ../versions/theirs-a.yml a.yml": {PIPE, VERSION},
     f"{WITH} encrypt {OLD} plain.yml": {PIPE},
-    f"{WITH} rekey {OLD} {NEW} a.yml": set(),
+    f"{WITH} rekey {OLD} {NEW} a.yml": {PIPE},
     f"{WITH} decrypt {OLD} a.yml": {PIPE, BESIDE},
 }
 # System calls that start a program, write something, or create something.

@@ -16,7 +16,8 @@ from ansible_vault_companions.tool import Tool, find_own
 
 def handle_files(companion: str, call: Call) -> int:
     """Replaces or shows each file. Returns the exit status."""
-    files, paths = Files(find_own(companion), call), call.args.arguments or [STANDARD_INPUT]
+    tool = find_own(companion, only_shows=call.args.command == VIEW)
+    files, paths = Files(tool, call), call.args.arguments or [STANDARD_INPUT]
     statuses: list[int] = []
     with output.Progress(lambda: f"file {len(statuses) + 1:,} of {len(paths):,}") as progress:
         for path in paths:
