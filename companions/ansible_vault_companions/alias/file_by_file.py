@@ -10,7 +10,7 @@ from ansible_vault_companions.alias.output_file import write_output
 from ansible_vault_companions.alias.password_choice import Call
 from ansible_vault_companions.alias.standard_input import read_standard_input
 from ansible_vault_companions.envelopes.pointers import refuse_pointer
-from ansible_vault_companions.files import link_bounds, reading, replacing
+from ansible_vault_companions.files import link_bounds, reading
 from ansible_vault_companions.tool import Tool, find_own
 
 
@@ -45,6 +45,9 @@ class Files:
         elif path == STANDARD_INPUT or args.output is not None:
             return write_output(args, self._run(_read(path)))
         else:
+            # Imported here, since to view a file takes no longer than this.
+            from ansible_vault_companions.files import replacing
+
             target = link_bounds.resolve_file(path)
             before = reading.read_existing(target)
             replacing.replace(target, self._run(before), before, is_private=args.command == DECRYPT)
