@@ -204,7 +204,7 @@ def test_tracked_script(place: Place, named: Named, key: str) -> None:
     if named.runs:
         check_each(place, named.words, "vault-pass.sh")
     else:
-        why = "this script is in a repository, and only ./ansible.cfg names it; to run it, name it with an option or "
+        why = "only ./ansible.cfg names this script; to run it, name it with an option or in the environment"
         ended("view", place.run(WITH, "view", "a.vault.yml"), 1, why)
         # git then does not say what it tracks.
         place.script("exit 128", "tools/git")
@@ -223,6 +223,19 @@ KNOWN = b"[defaults]\nvault_identity_list = prod@../secrets/dev\n"
 ONLY_DECRYPTS = (
     "prod@../secrets/dev decrypts it, which only ./ansible.cfg names; to encrypt with it, name it with an option"
 )
+
+
+def test_script_beside_an_option(place: Place) -> None:
+    """A script outside of repositories, such as make, may read a stranger's files. Beside an option, what only
+    ./ansible.cfg names does not run, and is overlooked."""
+    begin(place)
+    script = place.script("touch started; echo the password old", "tools/anything")
+    place.put("ansible.cfg", f"[defaults]\nvault_password_file = {script}\n".encode())
+    done = place.run(CHECK, *place.by_file("old"), "a.vault.yml")
+    ended("beside an option", done, 0, f"{script}: only ./ansible.cfg names this script; ", "; it is ignored\n")
+    assert not (place.tree / "started").exists()
+    ended("without one", place.run(CHECK, "a.vault.yml"), 0, "1 decrypted, 0 failed")
+    assert (place.tree / "started").exists()
 
 
 def test_password_of_a_stranger(place: Place) -> None:

@@ -29,7 +29,8 @@ def read_passwords(
 ) -> list[Password]:
     """Reads the passwords. Those that are ignored stay in the list, since the one to encrypt with is chosen among all
     that are named."""
-    passwords = [read_password(source, asking, for_git) for source in sources]
+    has_options = not all(source.is_setting for source in sources)
+    passwords = [read_password(source, asking, for_git, has_options) for source in sources]
     ignored = _list_ignored(passwords, skips)
     for password in ignored:
         write_error(f"{companion}: {escape(password.source.text)}: {password.fault}; it is ignored")
@@ -66,11 +67,11 @@ def load_typed_password(asking: Asking, unanswered: str) -> Password:
     return password
 
 
-def read_password(source: Source, asking: Asking, for_git: bool = False) -> Password:
+def read_password(source: Source, asking: Asking, for_git: bool = False, has_options: bool = False) -> Password:
     """Keeps a password in memory, since `<(..)` can be read only once. To encrypt, the user has to type it twice. What
     git runs takes no file of the repository."""
     try:
-        content = _read(source, asking, for_git)
+        content = _read(source, asking, for_git, has_options)
         descriptor = _keep_in_memory(content)
     except (Refused, OSError) as fault:
         why = describe_fault(fault, os.path.expanduser(os.path.expandvars(source.place)))
@@ -95,7 +96,7 @@ def _require_descriptors(descriptor: int) -> None:
         raise Refused(NO_DESCRIPTORS)
 
 
-def _read(source: Source, asking: Asking, for_git: bool) -> bytes:
+def _read(source: Source, asking: Asking, for_git: bool, has_options: bool) -> bytes:
     if source.is_prompt:
         # Most passwords are in files, which are read without this module and that of scripts.
         from ansible_vault_companions.passwords import prompts
@@ -103,14 +104,15 @@ def _read(source: Source, asking: Asking, for_git: bool) -> bytes:
         return prompts.ask_password(source.place, source.label, asking)
     path = expand_path(source.place)
     mode = os.stat(path).st_mode
-    is_program = stat.S_ISREG(mode) and mode & 0o111 > 0
     if for_git:
         working_tree.refuse_within(path)
-    working_tree.refuse_tracked(path, is_program, is_named=not source.is_of_folder)
-    if is_program:
+    if stat.S_ISREG(mode) and mode & 0o111:
+        if source.is_of_folder:
+            working_tree.refuse_script(path, has_options)
         from ansible_vault_companions.passwords import scripts
 
         return scripts.run_script(path, source.written_label)[: LONGEST_PASSWORD + 1]
+    working_tree.refuse_tracked(path)
     with open(path, "rb") as file:
         return file.read(LONGEST_PASSWORD + 1)
 

@@ -11,10 +11,7 @@ from ansible_vault_companions.refusals import Refused
 
 REPLACEABLE = "it is in the repository {}, where a commit can replace it; move it out, for example to ~/.vault_pass"
 TRACKED = "git tracks {}: everybody who has the repository has this password, or can replace it"
-NOT_NAMED = (
-    "this script is in a repository, and only ./ansible.cfg names it; to run it, name it with an option or in the "
-    "environment"
-)
+NOT_NAMED = "only ./ansible.cfg names this script; to run it, name it with an option or in the environment"
 
 
 def refuse_within(path: str) -> None:
@@ -29,14 +26,16 @@ def _refuse_within(path: str, top: str | None) -> None:
         raise Refused(REPLACEABLE.format(escape(top)))
 
 
-def refuse_tracked(path: str, is_program: bool, is_named: bool) -> None:
-    """Refuses a password file that git tracks, or to which a link leads that git tracks. A program may be in a
-    repository if the user has named it."""
-    if is_program and is_named:
-        return
+def refuse_script(path: str, has_options: bool) -> None:
+    """Refuses a script that only ./ansible.cfg names if it is in a repository, or if options name passwords, too: both
+    may be a stranger's."""
+    if has_options or any(link_bounds.find_repository(os.path.dirname(place)) for place in _list_places(path)):
+        raise Refused(NOT_NAMED)
+
+
+def refuse_tracked(path: str) -> None:
+    """Refuses a password file that git tracks, or to which a link leads that git tracks."""
     for place in _list_places(path):
-        if is_program and link_bounds.find_repository(os.path.dirname(place)):
-            raise Refused(NOT_NAMED)
         if _is_tracked(place):
             raise Refused(TRACKED.format(escape(place)))
 
