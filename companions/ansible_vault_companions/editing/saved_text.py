@@ -64,21 +64,20 @@ def _edit(tool: Tool, draft: Draft, path: str, folder: PrivateDirectory, resumed
             if fault:
                 raise Refused(f"{fault}; {UNCHANGED}")
             return None
-        notes: list[str] = []
+        if fault:
+            raise _rescue(tool, draft, path, text, fault, folder, resumed)
         try:
-            if not fault:
-                notes = _put_back(tool, draft, text)
+            notes = _put_back(tool, draft, text)
         except replacing.NotSynced as failed:
             folder.release(text, str(failed))
             raise
         except BaseException as failed:
-            fault = describe_failure(failed, path)
-            if isinstance(failed, Refused) and _opens_again(path, fault):
+            why = describe_failure(failed, path)
+            if isinstance(failed, Refused) and _opens_again(path, why):
                 continue
-        if not fault:
-            folder.release(text, WRITTEN)
-            return notes
-        raise _rescue(tool, draft, path, text, fault, folder, resumed)
+            raise _rescue(tool, draft, path, text, why, folder, resumed) from None
+        folder.release(text, WRITTEN)
+        return notes
 
 
 def _put_back(tool: Tool, draft: Draft, text: bytes) -> list[str]:
