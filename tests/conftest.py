@@ -29,7 +29,7 @@ OUTCOMES = "outcomes"
 # With --floors, at least this many tests of each part must run, and not many more, so that the floor is raised in time
 # (OUTCOMES counts the tests without a marker listed here); and the tests must record at least the amounts in LEAST.
 # Subtests count as one of these amounts.
-FLOORS = {OUTCOMES: 2700, "fuzz": 4, "faults": 46, "allocations": 36, "valgrind": 68, "newcomer": 14, "planted": 1}
+FLOORS = {OUTCOMES: 3000, "fuzz": 4, "faults": 46, "allocations": 36, "valgrind": 68, "newcomer": 14, "planted": 1}
 Report = pytest.TestReport | pytest.CollectReport
 HAS_FAILED = pytest.StashKey[bool]()
 LEAST = {"subtests": 90, "random requests": 200, "refused calls": 200, "refused allocations": 1200}
