@@ -71,8 +71,8 @@ def list_fitting(passwords: Passwords, vault: Labelled) -> list[str]:
 
 
 def outcome_of(passwords: Passwords, vault: Labelled) -> str:
-    """Return what becomes of a vault by the rule: a single password, or the only one of the options, encrypts whatever it
-    decrypts; of several, each encrypts only what has its label."""
+    """Return what becomes of a vault by the rule: a single password, or the only one of the options, encrypts whatever
+    it decrypts; of several, each encrypts only what has its label."""
     fitting = list_fitting(passwords, vault)
     if not fitting:
         return CLOSED

@@ -252,7 +252,7 @@ def test_password_of_a_stranger(place: Place) -> None:
     for name, content in before.items():
         ended(name, place.run(EDIT, *option, name, EDITOR=editor), 1, ONLY_DECRYPTS)
         assert place.get(name) == content
-    ended("a value", place.run_on(b"x", EDIT, *option, "--value", "c", "c.yml"), 1)
+    assert place.run_on(b"x", EDIT, *option, "--value", "c", "c.yml").returncode == 1
     for name in before:
         ended("by the settings", place.run(EDIT, name, EDITOR=editor), 0)
 

@@ -126,8 +126,8 @@ def require_named(password: Password, policy: Policy, where: str = "") -> None:
     stranger's, who knows it."""
     if policy.has_options and password.source.is_of_folder:
         raise Refused(
-            f"{where}{escape(password.source.text)} decrypts it, which only ./ansible.cfg names; to encrypt with it, name "
-            "it with an option, too"
+            f"{where}{escape(password.source.text)} decrypts it, which only ./ansible.cfg names; to encrypt with it, "
+            "name it with an option, too"
         )
 
 
