@@ -14,7 +14,7 @@ from ansible_vault_companions import memory, signals
 from ansible_vault_companions.quoting import escape
 from ansible_vault_companions.refusals import Refused
 
-# The module `typing` takes long to import, and so does `subprocess`, which most runs of ansible-vault-with do not need.
+# The module `typing` takes long to import, and so does `subprocess`, which not all runs of ansible-vault-with need.
 TYPE_CHECKING = False
 if TYPE_CHECKING:
     from subprocess import CompletedProcess, Popen

@@ -42,7 +42,7 @@ LINES = {
     f"{MERGE} {OLD} ../versions/base-a.yml a.yml ../versions/theirs-a.yml a.yml": "view",
     f"{TEXTCONV} {OLD} a.yml": "view",
     f"{WITH} view {OLD} a.yml c.yml": "view",
-    f"{WITH} decrypt {OLD} a.yml": "decrypt",
+    f"{WITH} decrypt {OLD} a.yml": "view",
 }
 OF_SEALING = {
     f"{EDIT} {OLD} a.yml": "encrypt",

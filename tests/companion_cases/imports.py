@@ -21,7 +21,7 @@ OLD, NEW = "--vault-password-file=../secrets/old", "--new-vault-password-file=..
 ALL_FILES = "concurrent.futures dataclasses json subprocess tempfile typing yaml"
 # Those of each command line, besides `argparse`.
 RUNS = {
-    f"{WITH} view {OLD} vault.yml": "",
+    f"{WITH} view {OLD} vault.yml": "subprocess",
     f"{TEXTCONV} {OLD} vault.yml": "subprocess",
     f"{TEXTCONV} {OLD} plain.yml": "typing",
     f"{TEXTCONV} {OLD} value.yml": "subprocess typing yaml",
