@@ -114,7 +114,7 @@ class Settled(NamedTuple):
 
 
 SETTLED = {
-    "a list": Settled(files={"ansible.cfg": LIST.format("dev@./script")}),
+    "./ansible.cfg": Settled(files={"ansible.cfg": LIST.format("dev@../secrets/dev")}),
     "a relative path, as direnv sets it": Settled(variables={"ANSIBLE_VAULT_PASSWORD_FILE": "script"}),
     "$PWD": Settled(variables={"ANSIBLE_VAULT_IDENTITY_LIST": "dev@$PWD/script"}),
     "a file of the user's own": Settled(files={"../.ansible.cfg": FILE.format("{{CWD}}/script")}),
@@ -153,13 +153,21 @@ def put_settings_of(place: Place, row: Settled) -> None:
     place.put("a.yml", sealed("dev"))
 
 
+def is_refused(row: Settled, line: str) -> bool:
+    """Whether an edit beside an option would encrypt with what only ./ansible.cfg names."""
+    return "ansible.cfg" in row.files and line.startswith(EDIT)
+
+
 @pytest.mark.parametrize("row", SETTLED.values(), ids=SETTLED)
 @pytest.mark.parametrize("line", READING)
 def test_reading_beside_options(place: Place, row: Settled, line: str) -> None:
     """To read, an option adds to the settings."""
     put_settings_of(place, row)
     done = place.shell(line)
-    assert done.returncode == 0 and (place.path / "ran").exists(), done
+    if is_refused(row, line):
+        ended("the edit", done, 1, "decrypts it, which only ./ansible.cfg names; to encrypt with it, name it ")
+    else:
+        assert done.returncode == 0 and (place.path / "ran").exists() == ("script" in repr(row)), done
 
 
 @pytest.mark.parametrize("row", SETTLED.values(), ids=SETTLED)
@@ -173,7 +181,9 @@ def test_encrypting_beside_options(place: Place, row: Settled, line: str, label:
     if "create" in line:
         (place.tree / "plain.yml").unlink()
     done = place.shell(line, ANSIBLE_VAULT_ENCRYPT_IDENTITY=label)
-    assert done.returncode == 0, done
+    assert done.returncode == (1 if is_refused(row, line) else 0), done
+    if done.returncode:
+        return
     written = FOUND_BLOCK.findall(place.get(line.split()[-1] if "string" not in line else "plain.yml"))[-1]
     assert [text is not None for text in (texts(written, "old")[0], texts(written, "dev")[0])] == [True, False], done
 
