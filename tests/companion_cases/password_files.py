@@ -239,8 +239,8 @@ def test_script_beside_an_option(place: Place) -> None:
 
 
 def test_password_of_a_stranger(place: Place) -> None:
-    """Beside an option, what only ./ansible.cfg names decrypts and encrypts nothing: a stranger, who knows the password,
-    would read what is typed next. Without an option, it is the user's own."""
+    """Beside an option, what only ./ansible.cfg names decrypts and encrypts nothing: a stranger who knows it would read
+    what is typed next. Without an option, it is the user's own."""
     begin(place)
     before = {"b.vault.yml": sealed("dev", label="prod"), "c.yml": block("dev", label="prod", name="c")}
     for name, content in before.items():
