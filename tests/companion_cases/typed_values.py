@@ -138,7 +138,7 @@ def test_typed_values(request: pytest.FixtureRequest) -> None:
         assert [word for word in SECRETS if after.count(word.encode()) > before.count(word.encode())] == []
 
     check()
-    assert min(counts["encrypted"], counts[NO_VALUE], counts[CUT_SHORT]) > 20, counts
+    assert min(counts["encrypted"], counts[NO_VALUE], counts[CUT_SHORT]) > 5, counts
 
 
 # What somebody may type for the tag, and lines with it.
