@@ -13,7 +13,7 @@ from pathlib import Path
 from typing import Any
 
 # Seconds after which a run is ended: of processor time, and by the clock.
-OF_PROCESSOR, BY_CLOCK = 60, 300
+OF_PROCESSOR, BY_CLOCK = 240, 600
 
 
 def start(main: dict[str, Any], words: list[str], folder: str, environment: dict[str, str]) -> None:
