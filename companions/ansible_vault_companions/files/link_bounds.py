@@ -15,6 +15,8 @@ from functools import lru_cache
 from ansible_vault_companions.quoting import escape, quote_word
 from ansible_vault_companions.refusals import Refused
 
+# How many links the system follows on one path. Behind a missing name, which it does not pass, links may go in circles.
+MOST_LINKS = 40
 GIT = ".git"
 WITHIN_GIT = f"/{GIT}/"
 
@@ -93,6 +95,8 @@ def list_links(path: str) -> tuple[str, list[str]]:
         elif name not in ("", os.curdir):
             target = os.path.join(target, name)
             if _is_link(target):
+                if len(links) == MOST_LINKS:
+                    raise OSError(errno.ELOOP, os.strerror(errno.ELOOP), path)
                 links.append(target)
                 text = os.readlink(target)
                 target = "/" if os.path.isabs(text) else os.path.dirname(target)
