@@ -58,7 +58,7 @@ def check_typed_tags(shown: bytes, saved: ParsedText) -> None:
 def _find_faults(saved: ParsedText) -> Iterator[tuple[int, bytes, str]]:
     """The number and content of each line with something that looks like a tag, and what is wrong with it."""
     values = [value for value in saved.values if value.is_tagged]
-    begins = [value.begin for value in values]
+    begins = [value.scalar_start for value in values]
     place = 0
     for number, line in enumerate(saved.data.splitlines(keepends=True), 1):
         for start in _find_lookalikes(line):
@@ -67,10 +67,10 @@ def _find_faults(saved: ParsedText) -> Iterator[tuple[int, bytes, str]]:
             assert tag
             value = values[bisect_right(begins, tag.end()) - 1] if values else None
             why = ""
-            if value and value.begin == tag.end():
+            if value and value.scalar_start == tag.end():
                 why = CUT_SHORT if _is_cut_short(saved.data, tag.end(1), value) else ""
-            # The word may also be in a text that is encrypted.
-            elif not (value and value.begin <= begin < value.end):
+            # The word may also be in a text that is encrypted. If that has no quotes, a comment may end it.
+            elif not (value and value.style != PLAIN and value.scalar_start <= begin < value.end):
                 why = NO_VALUE
             if why:
                 yield number, line, why
@@ -81,13 +81,10 @@ def _find_faults(saved: ParsedText) -> Iterator[tuple[int, bytes, str]]:
 def _find_lookalikes(line: bytes) -> Iterator[int]:
     """Where in a line each thing that looks like the tag begins."""
     text = line.decode() if b"!" in line else ""
-    place = character = 0
     for found in RUN.finditer(text):
         begin = BEGIN.search(text, found.start(), found.end(1))
         if begin and _is_like_tag("!" + found[2].lower().removesuffix("-encrypted")):
-            place += len(text[character : begin.start()].encode())
-            character = begin.start()
-            yield place
+            yield len(text[: begin.start()].encode())
 
 
 def _is_like_tag(word: str) -> bool:
@@ -108,7 +105,7 @@ def _is_cut_short(data: bytes, tag_end: int, value: Node) -> bool:
     else."""
     if value.style != PLAIN or value.is_envelope:
         return False
-    return data[tag_end : value.begin].strip() != b"" or not REST.match(data, value.end)
+    return data[tag_end : value.scalar_start].strip() != b"" or not REST.match(data, value.end)
 
 
 def find_other_tags(shown: list[Node], saved: Iterable[Node]) -> list[Node]:
