@@ -106,7 +106,7 @@ def _name_damage(envelope: bytes, fault: Refused) -> Refused:
 Decrypt = Callable[[bytes], Decryption]
 
 
-class Result:
+class RememberedRun:
     """What a call returns or refuses. Whoever asks first makes the call, and others wait for it."""
 
     def __init__(self, call: Callable[[], bytes]) -> None:
@@ -144,13 +144,13 @@ class Tool:
     def __init__(self, path: str) -> None:
         self.path = path
         self.lock = threading.Lock()
-        self.results: dict[Hashable, Result] = {}
+        self.results: dict[Hashable, RememberedRun] = {}
         self.room = REMEMBERED_BYTES
 
     def describe(self) -> str:
         return f"the tool is {escape(self.path)}"
 
-    def announce(self, companion: str) -> None:
+    def announce(self, name: str) -> None:
         """Says at a terminal what else than this project's program works for a companion."""
 
     def run(self, words: list[str], data: bytes, passwords: list[Password], label: str = "") -> bytes:
@@ -173,21 +173,25 @@ class Tool:
         return self.remember((envelope, password), len(envelope), lambda: self.run(words, envelope, [password]))
 
     def decrypt(self, envelope: bytes, passwords: list[Password], policy: Policy) -> Decryption:
-        """Tries passwords one at a time, those with the envelope's label first, so it is certain which one works."""
-        try:
-            return self._try_passwords(envelope, passwords, policy)
-        except Refused as fault:
-            raise _name_damage(envelope, fault) from None
+        password, text = self.try_passwords(envelope, passwords, policy, partial(self.view, envelope))
+        return Decryption(envelope, password, text, policy)
 
-    def _try_passwords(self, envelope: bytes, passwords: list[Password], policy: Policy) -> Decryption:
+    def try_passwords(
+        self, envelope: bytes, passwords: list[Password], policy: Policy, run: Callable[[Password], bytes]
+    ) -> tuple[Password, bytes]:
+        """The password that decrypts an envelope, and the output of the run with it. They are tried one at a time,
+        those with the envelope's label first, so it is certain which one works."""
         label = read_label(envelope)
         tried = order_to_try(passwords, label, policy)
-        for password in tried:
-            with suppress(NotDecrypted):
-                plaintext = self.view(envelope, password)
-                password.trust()
-                return Decryption(envelope, password, plaintext, policy)
-        raise NotDecrypted(f"{NOT_DECRYPTED} {describe_attempts(label, tried, policy)}")
+        try:
+            for password in tried:
+                with suppress(NotDecrypted):
+                    output = run(password)
+                    password.trust()
+                    return password, output
+            raise NotDecrypted(f"{NOT_DECRYPTED} {describe_attempts(label, tried, policy)}")
+        except Refused as fault:
+            raise _name_damage(envelope, fault) from None
 
     def encrypt(self, plaintext: bytes, key: Key) -> bytes:
         """The plaintext, encrypted and labeled with a key."""
@@ -202,7 +206,7 @@ class Tool:
     def remember(self, what: Hashable, size: int, call: Callable[[], bytes]) -> bytes:
         """The result of a call, or that of an equal one before it, if there was room to remember it."""
         with self.lock:
-            result = self.results.get(what) or Result(call)
+            result = self.results.get(what) or RememberedRun(call)
             if what not in self.results and size <= self.room:
                 self.room -= size
                 self.results[what] = result

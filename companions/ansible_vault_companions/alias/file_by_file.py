@@ -9,8 +9,11 @@ from ansible_vault_companions.alias.command_line import DECRYPT, ENCRYPT, NAME, 
 from ansible_vault_companions.alias.output_file import write_output
 from ansible_vault_companions.alias.password_choice import Call
 from ansible_vault_companions.alias.standard_input import read_standard_input
+from ansible_vault_companions.envelopes.header import read_label
 from ansible_vault_companions.envelopes.pointers import refuse_pointer
 from ansible_vault_companions.files import link_bounds, reading
+from ansible_vault_companions.passwords.labels import require_label
+from ansible_vault_companions.passwords.password import Password
 from ansible_vault_companions.tool import Tool, find_own
 
 
@@ -58,17 +61,21 @@ class Files:
         self.end = b"\n" if text and not text.endswith(b"\n") else b""
 
     def _run(self, data: bytes) -> bytes:
-        """What the command makes of this. A vault keeps its text if its label forbids the one password that opens it
+        """What the command makes of this. A vault stays as it is if its label forbids the one password that opens it
         to encrypt it again."""
         refuse_pointer(data)
-        call, passwords = self.call, self.call.passwords
-        if call.args.command != ENCRYPT:
-            decrypted = self.tool.decrypt(data, passwords, call.policy)
-            if call.args.command != REKEY:
-                return decrypted.text
-            decrypted.require_label()
-            passwords = [decrypted.password]
-        return self.tool.run(call.words(passwords, "--output"), data, [*passwords, *call.new], call.new_label)
+        tool, call = self.tool, self.call
+
+        def encrypt(password: Password) -> bytes:
+            return tool.run(call.words([password], "--output"), data, [password, *call.new], call.new_label)
+
+        if call.args.command == ENCRYPT:
+            return encrypt(*call.passwords)
+        if call.args.command != REKEY:
+            return tool.decrypt(data, call.passwords, call.policy).text
+        password, envelope = tool.try_passwords(data, call.passwords, call.policy, encrypt)
+        require_label(password, read_label(data) or "", call.policy)
+        return envelope
 
 
 def _read(path: str) -> bytes:

@@ -98,10 +98,10 @@ class ValueMerge:
         return apply_replacements(data, [self._make_token(side, data, value) for value in self.values[side]])
 
     def _make_token(self, side: str, data: bytes, value: Node) -> Replacement:
-        begin = value.start if value.style == STRAY else value.begin
+        begin = value.envelope_start if value.style == STRAY else value.scalar_start
         found = self.decrypted.get(value.text)
         meaning = (self._find_key(found), found.text) if found else value.text
-        identity = (meaning, value.style, data[begin : value.start], value.margin, value.ending)
+        identity = (meaning, value.style, data[begin : value.envelope_start], value.margin, value.ending)
         number = self.numbers.setdefault(identity, len(self.numbers))
         self.uses[side, number].append(Use(value, data[begin : value.end]))
         token = b"%s-%d" % (self.mark, number)
@@ -139,7 +139,7 @@ class ValueMerge:
         found = self.decrypted[value.text]
         envelope = tool.encrypt_again(value.text, found.text, self._find_key(found))
         self.envelopes.append(envelope)
-        head = scalar[: value.start - (value.start if value.style == STRAY else value.begin)]
+        head = scalar[: value.envelope_start - (value.envelope_start if value.style == STRAY else value.scalar_start)]
         return head + replace_envelope(value, envelope).text
 
     def _has_key(self, use: Use) -> bool:
