@@ -11,7 +11,7 @@ from ansible_vault_companions.output import LOST, flush_streams, open_streams, w
 from ansible_vault_companions.refusals import Refused, describe_fault, describe_refusal, name_file
 
 
-def attempt_work(companion: str, path: str, work: Callable[[], int | None]) -> int:
+def attempt_work(name: str, path: str, work: Callable[[], int | None]) -> int:
     """Works on a file. Returns the exit status that the work returns, if any, or that of a failure, after a message."""
     try:
         return work() or 0
@@ -19,7 +19,7 @@ def attempt_work(companion: str, path: str, work: Callable[[], int | None]) -> i
         name_file(path, fault)
         raise
     except (Refused, OSError) as fault:
-        return _report_fault(f"{companion}: {describe_refusal(path, fault)}", fault)
+        return _report_fault(f"{name}: {describe_refusal(path, fault)}", fault)
 
 
 def _report_fault(text: str, fault: Exception) -> int:
@@ -39,6 +39,8 @@ def run_companion(name: str, main: Callable[[list[str]], int]) -> None:
     # A failure of which nobody can be told is one, too.
     if not flush_streams() or LOST:
         status = status or 1
+    # While Python ends, it ignores exceptions.
+    signals.stop_handling()
     sys.exit(status)
 
 

@@ -61,13 +61,24 @@ def end_by_signal() -> None:
         signal.raise_signal(received)
 
 
+def stop_handling() -> None:
+    """When nothing is left to clean up or keep: a signal that has come ends the companion, and so does any other."""
+    _set_actions(ENDING, signal.SIG_DFL)
+    end_by_signal()
+
+
 class Postponement:
     """A context at whose end signals arrive."""
 
     how = signal.SIG_BLOCK
 
     def __enter__(self) -> None:
-        self.mask = signal.pthread_sigmask(self.how, POSTPONED)
+        try:
+            self.mask = signal.pthread_sigmask(self.how, POSTPONED)
+        except Stopped:
+            # Python tells of an earlier signal only after the call. Blocked, that could not end the companion any more.
+            signal.pthread_sigmask(signal.SIG_UNBLOCK, POSTPONED)
+            raise
 
     def __exit__(self, *_: object) -> None:
         signal.pthread_sigmask(signal.SIG_SETMASK, self.mask)

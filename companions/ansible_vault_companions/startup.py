@@ -21,7 +21,7 @@ def report_failure(kind: type[BaseException], fault: BaseException, _trace: obje
     is a bug, with a traceback to report."""
     from ansible_vault_companions import signals
 
-    signals.end_by_signal()
+    signals.stop_handling()
     # Such as a lack of memory, or of threads. Python's import of a module may end in a SystemError then.
     if issubclass(kind, (MemoryError, RuntimeError, SystemError, ImportError, OSError)):
         # It may have come while another one was reported, which may say where a text is kept.
