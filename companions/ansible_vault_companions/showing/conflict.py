@@ -5,7 +5,7 @@ from __future__ import annotations
 from collections.abc import Callable
 
 from ansible_vault_companions.merging.line_merge import Versions, join_lines
-from ansible_vault_companions.merging.unmerged_file import find_versions
+from ansible_vault_companions.merging.conflict_versions import find_versions
 from ansible_vault_companions.merging.vault_merge import VaultMerge
 from ansible_vault_companions.refusals import Refused
 from ansible_vault_companions.showing import first_line

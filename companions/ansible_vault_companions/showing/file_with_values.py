@@ -29,7 +29,7 @@ def read_envelopes(target: str) -> ParsedText:
     return parse_envelopes(detection.read_envelope_file(target))
 
 
-def show_envelopes(companion: str, parsed: ParsedText, path: str, target: str, decrypt: Decrypt) -> list[bytes]:
+def show_envelopes(name: str, parsed: ParsedText, path: str, target: str, decrypt: Decrypt) -> list[bytes]:
     """The first line, and the file's data with plaintext in place of its envelopes, as far as they can be decrypted and
     shown. It is in pieces, since it may be long."""
     if conflicts.is_unmerged(parsed.data):
@@ -38,12 +38,12 @@ def show_envelopes(companion: str, parsed: ParsedText, path: str, target: str, d
 
         def show_side(data: bytes) -> list[bytes]:
             side = parse_envelopes(data)
-            return [_choose_first_line(side), _show_values(companion, side, path, decrypt)]
+            return [_choose_first_line(side), _show_values(name, side, path, decrypt)]
 
         shown = conflict.show_conflict(target, parsed.data, decrypt, show_side)
         if shown is not None:
             return shown
-    return [_choose_first_line(parsed), _show_values(companion, parsed, path, decrypt)]
+    return [_choose_first_line(parsed), _show_values(name, parsed, path, decrypt)]
 
 
 def _choose_first_line(parsed: ParsedText) -> bytes:
@@ -59,13 +59,13 @@ def _is_encrypted(value: Node) -> bool:
     return value.style not in (STRAY, LOOSE) or value.is_whole
 
 
-def _show_values(companion: str, parsed: ParsedText, path: str, decrypt: Decrypt) -> bytes:
+def _show_values(name: str, parsed: ParsedText, path: str, decrypt: Decrypt) -> bytes:
     work = partial(_try_to_show, parsed.data, decrypt)
     results = work_at_once(work, parsed.envelopes, shows_progress=False)
     changes: list[Replacement] = []
     for result, value in zip(results, parsed.envelopes):
         if isinstance(result, Refused):
-            write_error(f"{companion}: {value.describe_place(path)}: shown as it is: {result}")
+            write_error(f"{name}: {value.describe_place(path)}: shown as it is: {result}")
         else:
             changes += result
     return apply_replacements(parsed.data, changes)
@@ -79,16 +79,16 @@ def _try_to_show(data: bytes, decrypt: Decrypt, value: Node) -> list[Replacement
         return fault
 
 
-def show_value(data: bytes, path: str, decrypt: Decrypt) -> bytes:
+def show_value(data: bytes, key_path: str, decrypt: Decrypt) -> bytes:
     """The plaintext of a value in YAML, or in the plaintext of a vault."""
     refuse_pointer(data)
     is_vault = data.startswith(MAGIC)
     # The names in a vault's plaintext are secret.
-    value = require_nodes(decrypt(data).text if is_vault else data).find_value_at(path, names_others=not is_vault)
+    value = require_nodes(decrypt(data).text if is_vault else data).find_value_at(key_path, names_others=not is_vault)
     if value.is_envelope:
         return decrypt(value.require_readable()).text
     if not is_vault:
-        raise Refused(VALUE_NOT_ENCRYPTED.format(escape(path)))
+        raise Refused(VALUE_NOT_ENCRYPTED.format(escape(key_path)))
     if value.style in (NO_SCALAR, ALIAS):
-        raise Refused(NO_SCALAR_THERE.format(escape(path)))
+        raise Refused(NO_SCALAR_THERE.format(escape(key_path)))
     return value.text

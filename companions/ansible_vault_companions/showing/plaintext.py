@@ -3,7 +3,6 @@ vault, so what only other files need is imported for these alone."""
 
 from __future__ import annotations
 
-import os
 from collections.abc import Callable
 from functools import partial
 
@@ -14,29 +13,26 @@ from ansible_vault_companions.passwords.labels import Policy
 from ansible_vault_companions.passwords.password import Password
 from ansible_vault_companions.quoting import escape
 from ansible_vault_companions.refusals import Refused, describe_fault
-from ansible_vault_companions.showing import first_line
-from ansible_vault_companions.tool import NotDecrypted, find_tool
+from ansible_vault_companions.showing import commit_message, first_line
+from ansible_vault_companions.tool import find_tool
 
 NAME = "ansible-vault-textconv"
-# The file with git's commit message. `git commit -v` writes the diff into it, and it stays.
-MESSAGE = "COMMIT_EDITMSG"
-WOULD_STAY = f"its plaintext would stay in git's file {MESSAGE}; `git diff --cached` shows it"
 NO_ENVELOPE = "it is not a vault and has no encrypted value"
 
 
 def print_plaintext(
-    companion: str, path: str, value: str | None, load: Callable[[], tuple[list[Password], Policy]]
+    companion: str, path: str, key_path: str | None, load: Callable[[], tuple[list[Password], Policy]]
 ) -> None:
-    """Prints a typed file or, if one is named, only a value of it."""
+    """Prints a typed file or, if a key path is given, only the value there."""
     target = link_bounds.resolve_to_read(path)
-    if _is_commit_message_open():
-        if value is not None:
-            raise Refused(WOULD_STAY)
-        _print_as_it_is(path, target, WOULD_STAY)
+    if commit_message.is_open():
+        if key_path is not None:
+            raise Refused(commit_message.WOULD_STAY)
+        _print_as_it_is(path, target, commit_message.WOULD_STAY)
         return
     passwords, policy = load()
-    if value is not None:
-        _print_value(companion, value, target, passwords, policy)
+    if key_path is not None:
+        _print_value(companion, key_path, target, passwords, policy)
         return
     try:
         pieces = _show_vault(companion, target, passwords, policy)
@@ -52,24 +48,21 @@ def print_plaintext(
         output.write_data(piece)
 
 
-def _is_commit_message_open() -> bool:
-    """Whether git has its commit message open, and so may write into it what is shown."""
-    return any(os.path.basename(os.path.realpath(file)) == MESSAGE for file in os.scandir("/proc/self/fd"))
-
-
 def _show_vault(companion: str, target: str, passwords: list[Password], policy: Policy) -> list[bytes] | None:
-    """What is shown of a file that is a vault. None for any other file, and if the program finds more than a vault in
-    it, such as git's conflict markers."""
+    """What is shown of a file that is a vault; None for any other file, and for a conflict that begins with one."""
     vault = reading.read_if_begins(target, MAGIC)
     if not vault:
         return None
     tool = find_tool(companion, only_shows=True)
     try:
         decrypted = tool.decrypt(vault, passwords, policy)
-    except NotDecrypted:
-        raise
     except Refused:
-        return None
+        # Most vaults have no conflict.
+        from ansible_vault_companions.envelopes import conflicts
+
+        if conflicts.is_unmerged(vault):
+            return None
+        raise
     return [first_line.describe_vault(decrypted.key.label), decrypted.text]
 
 
@@ -98,8 +91,8 @@ def _print_as_it_is(path: str, target: str, why: str, line: bytes = first_line.A
         output.write_data(piece)
 
 
-def _print_value(companion: str, path: str, target: str, passwords: list[Password], policy: Policy) -> None:
+def _print_value(companion: str, key_path: str, target: str, passwords: list[Password], policy: Policy) -> None:
     from ansible_vault_companions.showing import file_with_values
 
     decrypt = partial(find_tool(companion).decrypt, passwords=passwords, policy=policy)
-    output.write_data(file_with_values.show_value(reading.read_existing(target), path, decrypt))
+    output.write_data(file_with_values.show_value(reading.read_existing(target), key_path, decrypt))
