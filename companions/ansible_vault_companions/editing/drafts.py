@@ -1,4 +1,4 @@
-"""What can be edited: a vault, YAML with values, a conflict of either, or a single value of YAML."""
+"""What an editor can open: a vault, YAML with values, or a conflict of either."""
 
 from __future__ import annotations
 
@@ -16,7 +16,7 @@ from ansible_vault_companions.files import link_bounds, reading
 from ansible_vault_companions.git.pathspecs import make_pathspec
 from ansible_vault_companions.merging.file_merge import KINDS_DIFFER, TAKE_SIDE
 from ansible_vault_companions.merging.line_merge import Versions, join_lines
-from ansible_vault_companions.merging.unmerged_file import find_versions
+from ansible_vault_companions.merging.conflict_versions import find_versions
 from ansible_vault_companions.merging.vault_merge import VaultMerge
 from ansible_vault_companions.passwords.labels import Policy
 from ansible_vault_companions.passwords.password import Password
@@ -103,10 +103,7 @@ class Loader:
     def __init__(self, tool: Tool, passwords: list[Password], policy: Policy, label: str | None) -> None:
         self.tool = tool
         self.decrypt = partial(tool.decrypt, passwords=passwords, policy=policy)
-        # The label that the user has chosen is also for the text of a conflict and for a single value; the usual one is
-        # for new vaults and values alone.
-        self.chosen = Choice(passwords, label)
-        self.choice = Choice(passwords, label or policy.usual_label)
+        self.choice = Choice(passwords, label, policy.usual_label)
 
     def load(self, target: str) -> Draft:
         """The draft for the file at a real path."""
@@ -128,7 +125,7 @@ class Loader:
     def _load_conflict(self, target: str, content: bytes, versions: Versions) -> Draft:
         if all(versions.are_vaults):
             vaults = VaultMerge(self.decrypt, versions)
-            chosen = self.chosen.find_key() if self.chosen.label is not None else None
+            chosen = self.choice.find_key() if self.choice.chosen is not None else None
             key = vaults.choose_key(chosen)
             key.password.confirm()
             return ConflictDraft(target, content, vaults, key)
@@ -136,11 +133,7 @@ class Loader:
             raise Refused(ONE_SIDE.format(make_pathspec(target)))
         ours, theirs = YamlText(versions.ours, self.decrypt), YamlText(versions.theirs, self.decrypt)
         text = join_lines(Versions(ours.shown.data, self._show_base(versions.base), theirs.shown.data))
-        draft = self._make_yaml_draft(target, content, [ours, theirs], text)
-        # Where both sides have a text, one that has changed its envelope comes first.
-        draft.opened.sort(key=lambda old: old.scalar in versions.base)
-        draft.choice = draft.choice._replace(of_conflict=self.chosen)
-        return draft
+        return self._make_yaml_draft(target, content, [ours, theirs], text, versions.base)
 
     def _show_base(self, base: bytes) -> bytes:
         """The base as the sides are shown. One that cannot be read counts as none."""
@@ -155,16 +148,18 @@ class Loader:
         side = YamlText(content, self.decrypt)
         return self._make_yaml_draft(target, content, [side], side.shown.data)
 
-    def _make_yaml_draft(self, target: str, content: bytes, sides: list[YamlText], plaintext: bytes) -> YamlDraft:
-        draft = YamlDraft(target, content, sides, plaintext, self.choice)
+    def _make_yaml_draft(
+        self, target: str, content: bytes, sides: list[YamlText], plaintext: bytes, base: bytes = b""
+    ) -> YamlDraft:
+        draft = YamlDraft(target, content, sides, plaintext, self.choice, base)
         if not draft.tagged:
             raise Refused(NOTHING_TO_EDIT)
         for old in draft.opened:
             old.decrypted.require_key(f"{describe_place(old.value)}: ")
-        if len(draft.faults) == len(draft.tagged) and self.choice.label is None:
+        if len(draft.faults) == len(draft.tagged) and draft.choice.label is None:
             value, why = draft.faults[0]
             raise Refused(f"{describe_place(value)}: {why}{TO_ADD}")
-        keys = draft.choice.list_keys()
+        keys = draft.choice.list_new_keys()
         if len(keys) == 1:
             # Before somebody types a text for it.
             keys[0].password.confirm()

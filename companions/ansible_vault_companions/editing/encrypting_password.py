@@ -29,11 +29,17 @@ class Choice(NamedTuple):
     """What there is to choose from."""
 
     passwords: list[Password]
-    # The label that an option or a setting chooses; and the key of the file's values, if they all have one.
-    label: str | None
+    # The label that the user has chosen for this run, and the one of the settings. That is for what is new alone.
+    chosen: str | None = None
+    usual: str | None = None
+    # The key of the file's values, if they all have one; and whether the file has a conflict.
     key_of_values: Key | None = None
-    # For a conflict: what the options alone choose. It is also for a text that has several passwords in the sides.
-    of_conflict: Choice | None = None
+    in_conflict: bool = False
+
+    @property
+    def label(self) -> str | None:
+        """The label of something new."""
+        return self.chosen or self.usual
 
     @property
     def candidates(self) -> list[Password]:
@@ -52,7 +58,7 @@ class Choice(NamedTuple):
         password = choose_to_encrypt(self.passwords, self.label, where)
         return Key(password, password.label)
 
-    def list_keys(self) -> list[Key]:
+    def list_new_keys(self) -> list[Key]:
         """The keys that something new may get; none if the chosen one cannot be used."""
         with suppress(Refused):
             key = self.find_key()
@@ -66,12 +72,13 @@ class Choice(NamedTuple):
         return key
 
     def settle_key(self, name: str, place: str) -> Key:
-        """The key for what may be one of several texts with several passwords."""
-        if not self.of_conflict:
+        """The key for what may be one of several texts with several passwords. In a conflict, the chosen label is also
+        for that."""
+        if not self.in_conflict:
             raise Refused(UNCLEAR.format(place))
-        if self.of_conflict.label is None:
+        if self.chosen is None:
             raise Refused(SIDES_DIFFER.format(place))
-        return self.of_conflict.choose_key(name, place)
+        return self.choose_key(name, place)
 
     def _ask(self, name: str, place: str) -> Key:
         """The key with the label that the user chooses at a terminal."""

@@ -39,14 +39,14 @@ def find_lost(gone: Iterable[DecryptedValue], before: list[ParsedText], after: P
     for old in gone:
         # An item of a list may be at the place of another.
         others = at_path[old.value.path] if old.value.name or not old.value.path else []
-        is_at_key = any(is_new(after.data[value.begin : value.end]) for value in others)
+        is_at_key = any(is_new(after.data[value.scalar_start : value.end]) for value in others)
         if is_at_key or is_new(old.text):
             yield Lost(old.value, is_at_key)
 
 
 def _leave_out_values(parsed: ParsedText) -> bytes:
     """The plaintext of a file: what is left without the values that are encrypted."""
-    values = (Replacement(value.begin, value.end, b"") for value in parsed.values if value.is_tagged)
+    values = (Replacement(value.scalar_start, value.end, b"") for value in parsed.values if value.is_tagged)
     return apply_replacements(parsed.data, values)
 
 

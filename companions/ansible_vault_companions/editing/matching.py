@@ -49,12 +49,12 @@ def describe_place(value: Node) -> str:
 
 def find_matches(opened: list[DecryptedValue], typed: list[Node], choice: Choice) -> list[Match]:
     """What each typed value was before, or its key, in order."""
-    kept: dict[int, DecryptedValue] = {}
-    gone = _keep(kept, opened, typed, lambda value: value.path)
+    kept = _keep({}, opened, typed, lambda value: value.path)
     # An item of a list may be at the place of another. So what has left its list was replaced, if its place was taken.
-    replaced = _keep(kept, gone, typed, lambda value: _list_of(value.path))
-    gone = _keep(kept, replaced, typed, lambda _: ())
-    texts_gone = {old.text for old in gone}
+    kept = _keep(kept, opened, typed, lambda value: _list_of(value.path))
+    replaced = _list_gone(opened, kept)
+    kept = _keep(kept, opened, typed, lambda _: ())
+    texts_gone = {old.text for old in _list_gone(opened, kept)}
     replacements = _Replacements(opened, replaced, [each for number, each in enumerate(typed) if number not in kept])
     matches = []
     for number, value in enumerate(typed):
@@ -63,6 +63,7 @@ def find_matches(opened: list[DecryptedValue], typed: list[Node], choice: Choice
             continue
         keys = replacements.list_keys(value, choice)
         names = describe_name(value), describe_place(value)
+        # A text that is gone may have moved here. It was not kept, so those that had it have several passwords.
         if len(keys) > 1 or value.text in texts_gone:
             key = choice.settle_key(*names)
         else:
@@ -73,21 +74,29 @@ def find_matches(opened: list[DecryptedValue], typed: list[Node], choice: Choice
 
 def _keep(
     kept: dict[int, DecryptedValue],
-    gone: list[DecryptedValue],
+    opened: list[DecryptedValue],
     typed: list[Node],
     group: Callable[[Node], KeyPath],
-) -> list[DecryptedValue]:
-    """Adds the typed values that keep their envelopes: they have the text of one that is gone from the same group. If
-    they have moved, all that have it there must have the same key. Returns those that are still gone."""
+) -> dict[int, DecryptedValue]:
+    """What the typed values keep, by their numbers, with more: they have the text of one that is gone from the same
+    group. If they have moved, all that have it there must have the same key."""
     sources: dict[tuple[KeyPath, bytes], list[DecryptedValue]] = defaultdict(list)
-    for old in gone:
+    for old in _list_gone(opened, kept):
         sources[group(old.value), old.text].append(old)
+    more = {}
     for number, value in enumerate(typed):
         same = sources[group(value), value.text]
-        is_clear = same and same[0].value.path == value.path or len({old.decrypted.key for old in same}) == 1
-        if number not in kept and is_clear:
-            kept[number] = same.pop(0)
-    return [old for olds in sources.values() for old in olds]
+        if number in kept or not same:
+            continue
+        if same[0].value.path == value.path or len({old.decrypted.key for old in same}) == 1:
+            more[number] = same.pop(0)
+    return {**kept, **more}
+
+
+def _list_gone(opened: list[DecryptedValue], kept: dict[int, DecryptedValue]) -> list[DecryptedValue]:
+    """The values that no typed one keeps so far."""
+    still_there = {*kept.values()}
+    return [old for old in opened if old not in still_there]
 
 
 class _Replacements:
@@ -103,11 +112,12 @@ class _Replacements:
         self.changed = {group for group in self.before if self.before[group] != self.after[group]}
 
     def list_keys(self, value: Node, choice: Choice) -> set[Key]:
-        """The keys that a new text may get for what it replaces; none if it replaces nothing."""
+        """The keys that a new text may get for what it replaces; none if it replaces nothing. If items of its list have
+        come or gone, it may replace any item; if there are more than before, it may also be new."""
         group = _list_of(value.path)
         if group in self.changed:
             is_longer = len(self.after[group]) > len(self.before[group])
-            keys = {*self.in_list[group], *(choice.list_keys() if is_longer else ())}
+            keys = {*self.in_list[group], *(choice.list_new_keys() if is_longer else ())}
             if len({key.password.content for key in keys}) > 1:
                 return keys
         return {*self.at_path[value.path]}

@@ -22,7 +22,7 @@ READ_BY_SHELLS = re.compile(r"[^\w.,@%+-]")
 NO_PRIVATE_FOLDER = (
     "no private directory can be made for the plaintext ({}); set TMPDIR to a directory that only you can open"
 )
-IN_PLAINTEXT = "{}; what you saved is left in plaintext in {}"
+STAYS_IN_PLAINTEXT = "{}; what you saved is left in plaintext in {}"
 # A swap file of an editor that was ended has what was not saved.
 LEFT = "{} is left, with {} in it; save what you need, which may be plaintext, and remove it yourself"
 
@@ -69,7 +69,7 @@ class PrivateDirectory:
         """Whatever ended the edit, a message says where the text is, or what became of it."""
         why = describe_failure(fault, self.edited) if fault else self.outcome
         if not _is_in(self.file, self.texts):
-            raise Refused(IN_PLAINTEXT.format(why, self.path)) from None
+            raise Refused(STAYS_IN_PLAINTEXT.format(why, self.path)) from None
         for path in _list_files(self.path):
             if _is_in(path, self.texts):
                 with suppress(OSError):
@@ -79,6 +79,7 @@ class PrivateDirectory:
         if os.path.lexists(self.path):
             left = ", ".join(escape(os.path.basename(path)) for path in _list_files(self.path))
             raise Refused(f"{why}; {LEFT.format(self.path, left or 'nothing')}") from None
+        # Most refusals say it themselves.
         if fault and self.outcome not in why:
             raise Refused(f"{why}; {self.outcome}") from None
 

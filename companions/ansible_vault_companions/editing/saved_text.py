@@ -6,6 +6,8 @@ If you save nothing, the file stays, and a new vault is made only if it may be e
 from __future__ import annotations
 
 import os
+from collections.abc import Callable
+from dataclasses import dataclass
 
 from ansible_vault_companions import refusals, signals
 from ansible_vault_companions.editing.drafts import Draft
@@ -31,64 +33,93 @@ SEVERAL = "its text has several passwords, or may have, and none of them may rea
 RESCUED = "{}; what you saved is encrypted in {}\n--resume opens it, --discard removes it"
 
 
-def change_draft(tool: Tool, draft: Draft, path: str, resumed: Copy | None, allows_empty: bool) -> list[str]:
-    """Edits a draft, starting with the text of a copy if there is one, and makes an empty vault if that is allowed and
-    nothing was saved. Returns what is to be said. Signals must be postponed, until a message has said what became of
-    what was saved."""
-    with PrivateDirectory(path, resumed.text if resumed else draft.plaintext) as folder:
-        notes = _edit(tool, draft, path, folder, resumed)
-        # First, since the end of this context may refuse what the editor has left there.
-        if notes is not None and resumed:
-            _remove_copy(resumed)
-    if notes is not None:
-        return notes
-    if conflicts.is_unmerged(draft.plaintext):
-        raise Refused(conflicts.STILL)
-    if draft.content is not None or not allows_empty:
-        return [AS_BEFORE]
-    content, notes = draft.encrypt(tool, draft.plaintext)
-    replacing.replace(draft.target, content, before=None)
-    return [EMPTY, *notes]
+@dataclass
+class Edit:
+    """An edit of one file. Signals must be postponed, until a message has said what became of what was saved."""
 
+    tool: Tool
+    draft: Draft
+    # As on the command line.
+    path: str
+    # The copy whose text it begins with.
+    resumed: Copy | None
+    # Prints what is to be said of the file.
+    say: Callable[[str], None]
 
-def _edit(tool: Tool, draft: Draft, path: str, folder: PrivateDirectory, resumed: Copy | None) -> list[str] | None:
-    """Runs the editor until its text is put back, and returns what is to be said; None if nothing is to be changed.
-    Whatever else ends the edit leaves the text in the directory until it is elsewhere."""
-    while True:
-        fault = run_editor(folder.file)
-        text = reading.read(folder.file)
-        if text is None or draft.is_as_it_was(text):
-            folder.release(text, UNCHANGED)
-            # Even the directory may be gone: logging out removes files in memory.
-            fault = fault or (NO_FILE if text is None else "")
+    def change_file(self, allows_empty: bool) -> None:
+        """Runs the editor and puts its text into the file. If nothing was saved, makes an empty vault if that is
+        allowed."""
+        draft, resumed = self.draft, self.resumed
+        with PrivateDirectory(self.path, resumed.text if resumed else draft.plaintext) as folder:
+            is_saved = self._run_editor(folder)
+            # First, since the end of this context may refuse what the editor has left there.
+            if is_saved and resumed:
+                _remove_copy(resumed)
+        if is_saved:
+            return
+        if conflicts.is_unmerged(draft.plaintext):
+            raise Refused(conflicts.STILL)
+        if draft.content is not None or not allows_empty:
+            self.say(AS_BEFORE)
+            return
+        content, notes = draft.encrypt(self.tool, draft.plaintext)
+        replacing.replace(draft.target, content, before=None)
+        for note in (EMPTY, *notes):
+            self.say(note)
+
+    def _run_editor(self, folder: PrivateDirectory) -> bool:
+        """Runs the editor until its text is put back. Returns whether there was anything to change. Whatever else ends
+        the edit leaves the text in the directory until it is elsewhere."""
+        while True:
+            fault = run_editor(folder.file)
+            text = reading.read(folder.file)
+            if text is None or self.draft.is_as_it_was(text):
+                folder.release(text, UNCHANGED)
+                # Even the directory may be gone: logging out removes files in memory.
+                fault = fault or (NO_FILE if text is None else "")
+                if fault:
+                    raise Refused(f"{fault}; {UNCHANGED}")
+                return False
             if fault:
-                raise Refused(f"{fault}; {UNCHANGED}")
-            return None
-        if fault:
-            raise _rescue(tool, draft, path, text, fault, folder, resumed)
-        try:
-            notes = _put_back(tool, draft, text)
-        except replacing.NotSynced as failed:
-            folder.release(text, str(failed))
-            raise
-        except BaseException as failed:
-            why = describe_failure(failed, path)
-            if isinstance(failed, Refused) and _opens_again(path, why):
-                continue
-            raise _rescue(tool, draft, path, text, why, folder, resumed) from None
-        folder.release(text, WRITTEN)
+                raise self._rescue(text, fault, folder)
+            try:
+                notes = self._put_back(text)
+            except replacing.NotSynced as failed:
+                folder.release(text, str(failed))
+                raise
+            except BaseException as failed:
+                why = describe_failure(failed, self.path)
+                if isinstance(failed, Refused) and _opens_again(self.path, why):
+                    continue
+                raise self._rescue(text, why, folder) from None
+            folder.release(text, WRITTEN)
+            for note in notes:
+                self.say(note)
+            return True
+
+    def _put_back(self, text: bytes) -> list[str]:
+        """Encrypts a text into the file, and returns what is to be said of it."""
+        if text.startswith(MAGIC):
+            raise Refused(A_VAULT)
+        with signals.Arrival():
+            content, notes = self.draft.encrypt(self.tool, text)
+        if content != self.draft.content:
+            replacing.replace(self.draft.target, content, self.draft.content)
         return notes
 
-
-def _put_back(tool: Tool, draft: Draft, text: bytes) -> list[str]:
-    """Encrypts a text into the file, and returns what is to be said of it."""
-    if text.startswith(MAGIC):
-        raise Refused(A_VAULT)
-    with signals.Arrival():
-        content, notes = draft.encrypt(tool, text)
-    if content != draft.content:
-        replacing.replace(draft.target, content, draft.content)
-    return notes
+    def _rescue(self, text: bytes, why: str, folder: PrivateDirectory) -> Refused:
+        """Keeps a text that is not put back. Returns the exception that says where it is, and how to go on; if no copy
+        is possible, why."""
+        draft = self.draft
+        try:
+            if draft.key is None:
+                raise Refused(SEVERAL)
+            copy = save_copy(self.tool, draft.key, draft.target, draft.plaintext, text, self.resumed)
+        except Exception as failed:
+            return Refused(f"{why}; {NO_COPY}: {describe_failure(failed, self.path)}")
+        rescued = RESCUED.format(why, escape(copy))
+        folder.release(text, rescued)
+        return Refused(rescued)
 
 
 def _opens_again(path: str, why: str) -> bool:
@@ -99,22 +130,6 @@ def _opens_again(path: str, why: str) -> bool:
     # A signal arrived, or the terminal is gone.
     except (signals.Stopped, Refused, OSError):
         return False
-
-
-def _rescue(
-    tool: Tool, draft: Draft, path: str, text: bytes, why: str, folder: PrivateDirectory, resumed: Copy | None
-) -> Refused:
-    """Keeps a text that is not put back. Returns the exception that says where it is, and how to go on; if no copy is
-    possible, why."""
-    try:
-        if draft.key is None:
-            raise Refused(SEVERAL)
-        copy = save_copy(tool, draft.key, draft.target, draft.plaintext, text, resumed)
-    except Exception as failed:
-        return Refused(f"{why}; {NO_COPY}: {describe_failure(failed, path)}")
-    rescued = RESCUED.format(why, escape(copy))
-    folder.release(text, rescued)
-    return Refused(rescued)
 
 
 def _remove_copy(copy: Copy) -> None:

@@ -36,47 +36,47 @@ NO_PLACE_IN_YAML = "there is no place for {} in this YAML; edit the file without
 SIMPLE_KEY = re.compile(r"(?!(?i:y|yes|n|no|on|off|true|false|null)\Z)[A-Za-z_][A-Za-z0-9_-]*")
 
 
-class SingleValue:
-    """A value at a path in a file. Its new text gets its own password, or a chosen one."""
+def set_value(target: str, path: str, tool: Tool, decrypt: Decrypt, choice: Choice) -> None:
+    """Sets the value at a path in a file to standard input. The text gets the value's own password, or a chosen one."""
+    content = reading.read(target)
+    is_chosen = choice.chosen is not None
+    if content is None and not is_chosen:
+        raise FileNotFoundError(errno.ENOENT, os.strerror(errno.ENOENT), target)
+    # With the key of a new value.
+    parsed = _parse(content or b"", path, is_chosen)
+    value = parsed.find_value_at(path)
+    _require_encryptable(value, path, is_chosen)
+    # The old text, if the password that opens it is to encrypt the new one.
+    before: bytes | None = None
+    if is_chosen:
+        key = choice.choose_key(escape(path), escape(path))
+    else:
+        decrypted = decrypt(value.require_readable())
+        # If the password has another label than the value, the new text may be for other readers.
+        key, before = decrypted.require_key(), decrypted.text
+    replacing.check_replaceable(target)
+    text = _read_input()
+    if text != before:
+        replacing.replace(target, _put(parsed, value, path, tool.encrypt(text, key)), content)
 
-    def __init__(self, target: str, content: bytes | None, path: str, decrypt: Decrypt, choice: Choice) -> None:
-        self.target = target
-        self.content = content
-        self.path = path
-        is_chosen = choice.label is not None
-        if content is None and not is_chosen:
-            raise FileNotFoundError(errno.ENOENT, os.strerror(errno.ENOENT), target)
-        # The file, with the key of a new value.
-        self.parsed = _parse(content or b"", path, is_chosen)
-        self.value = self.parsed.find_value_at(path)
-        if self.value.style in (NO_SCALAR, ALIAS):
-            raise Refused(NO_SCALAR_THERE.format(escape(path)))
-        if not (is_chosen or self.value.is_tagged and self.value.is_envelope):
-            raise Refused(VALUE_NOT_ENCRYPTED.format(escape(path)) + HOW_TO_ENCRYPT)
-        # The old text, if the password that opens it is to encrypt the new one.
-        self.before: bytes | None = None
-        if is_chosen:
-            self.key = choice.choose_key(escape(path), escape(path))
-        else:
-            decrypted = decrypt(self.value.require_readable())
-            # If the password has another label than the value, the new text may be for other readers.
-            self.key, self.before = decrypted.require_key(), decrypted.text
 
-    def set_text(self, tool: Tool) -> None:
-        """Sets it to standard input."""
-        text = _read_input()
-        if text != self.before:
-            replacing.replace(self.target, self._encrypt(tool.encrypt(text, self.key)), self.content)
+def _require_encryptable(value: Node, path: str, is_chosen: bool) -> None:
+    """Refuses what is no scalar and, unless a password is chosen for it, what is in plaintext."""
+    if value.style in (NO_SCALAR, ALIAS):
+        raise Refused(NO_SCALAR_THERE.format(escape(path)))
+    if not (is_chosen or value.is_tagged and value.is_envelope):
+        raise Refused(VALUE_NOT_ENCRYPTED.format(escape(path)) + HOW_TO_ENCRYPT)
 
-    def _encrypt(self, envelope: bytes) -> bytes:
-        """The file with the value encrypted."""
-        changes = put_envelope(self.parsed.data, self.value, envelope)
-        if not self.value.is_tagged:
-            changes = _add_tag(changes, self.value)
-        try:
-            return rewrite(self.parsed, changes, {self.value: envelope}).data
-        except Refused:
-            raise Refused(NO_PLACE_IN_YAML.format(escape(self.path))) from None
+
+def _put(parsed: ParsedText, value: Node, path: str, envelope: bytes) -> bytes:
+    """The file with an envelope as this value."""
+    changes = put_envelope(parsed.data, value, envelope)
+    if not value.is_tagged:
+        changes = _add_tag(changes, value)
+    try:
+        return rewrite(parsed, changes, {value: envelope}).data
+    except Refused:
+        raise Refused(NO_PLACE_IN_YAML.format(escape(path))) from None
 
 
 def _parse(data: bytes, path: str, is_chosen: bool) -> ParsedText:
@@ -113,7 +113,7 @@ def _add_key(data: bytes, key: str) -> bytes:
 def _add_tag(changes: list[Replacement], value: Node) -> list[Replacement]:
     """The changes with the tag before the value, which may be empty after its key."""
     first, *others = changes
-    tag = b"!vault " if value.end > value.begin else b" !vault "
+    tag = b"!vault " if value.end > value.scalar_start else b" !vault "
     return [first._replace(text=tag + first.text), *others]
 
 

@@ -74,22 +74,26 @@ class YamlDraft:
     """A file with values that are encrypted or will be; or the sides of a conflict in it, which are merged as they are
     shown."""
 
-    def __init__(self, target: str, content: bytes, sides: list[YamlText], plaintext: bytes, choice: Choice) -> None:
+    def __init__(
+        self, target: str, content: bytes, sides: list[YamlText], plaintext: bytes, choice: Choice, base: bytes = b""
+    ) -> None:
         self.target = target
         self.content: bytes | None = content
         self.sides = sides
         self.plaintext = plaintext
         self.tagged = [value for side in sides for value in side.tagged]
-        self.opened = [old for side in sides for old in side.opened]
+        # Where both sides have a text, it keeps the first envelope: that of a side that has changed it.
+        self.opened = sorted((old for side in sides for old in side.opened), key=lambda old: old.scalar in base)
         self.faults = [fault for side in sides for fault in side.faults]
         labels = {value.label for value in self.tagged if value.is_envelope}
         keys = {old.decrypted.key for old in self.opened}
-        self.choice = choice._replace(key_of_values=keys.pop() if len(keys) == len(labels) == 1 else None)
+        of_values = keys.pop() if len(keys) == len(labels) == 1 else None
+        self.choice = choice._replace(key_of_values=of_values, in_conflict=len(sides) > 1)
 
     @property
     def key(self) -> Key | None:
         """The key of the whole text, with new values; None if they have several passwords, or may have."""
-        new = self.choice.list_keys()
+        new = self.choice.list_new_keys()
         keys = [*(old.decrypted.key for old in self.opened), *new]
         is_single = new and len({key.password.content for key in keys}) == 1
         return keys[0] if is_single else None
@@ -104,7 +108,9 @@ class YamlDraft:
         refuse_directive(text)
         after = require_nodes(text)
         closed = {value.text for value, _ in self.faults}
-        typed = [value for value in after.values if _is_to_be_encrypted(value, closed)]
+        typed = [value for value in after.values if value.is_tagged and not _stays_encrypted(value, closed)]
+        for value in typed:
+            _require_text(value)
         check_typed_tags(self.plaintext, after)
         matches = find_matches(self.opened, typed, self.choice)
         envelopes = work_at_once(lambda pair: _seal(tool, *pair), zip(typed, matches))
@@ -146,7 +152,7 @@ def _try_to_open(data: bytes, value: Node, decrypt: Decrypt) -> DecryptedValue |
         return fault
     if decrypted.text.strip().startswith(MAGIC):
         return Refused("its plaintext is itself a vault")
-    return DecryptedValue(value, decrypted, data[value.begin : value.end], find_column(data, value.begin))
+    return DecryptedValue(value, decrypted, data[value.scalar_start : value.end], find_column(data, value.scalar_start))
 
 
 def _make_block(data: bytes, old: DecryptedValue) -> list[Replacement]:
@@ -168,22 +174,23 @@ def _seal(tool: Tool, value: Node, match: Match) -> bytes:
 def _write(data: bytes, value: Node, match: Match, envelope: bytes) -> list[Replacement]:
     """Writes an envelope. One that stays where it was is written as it was, if nothing follows in its line."""
     kept = match.kept
-    if kept and (value.is_flow, find_column(data, value.begin)) == (kept.value.is_flow, kept.column):
+    if kept and (value.is_flow, find_column(data, value.scalar_start)) == (kept.value.is_flow, kept.column):
         if value.is_flow or not data[value.end : find_line_end(data, value.end)].strip():
-            same = Replacement(value.begin, value.end, kept.scalar)
+            same = Replacement(value.scalar_start, value.end, kept.scalar)
             return [same, drop_blanks(data, value.end)] if kept.value.style == LITERAL else [same]
     return put_envelope(data, value, envelope)
 
 
-def _is_to_be_encrypted(value: Node, closed: set[bytes]) -> bool:
-    """Whether a value has to be encrypted. An envelope that was not opened, or was pasted whole, stays."""
-    is_like_a_vault = value.text.startswith(MAGIC)
-    if not value.is_tagged or is_like_a_vault and (value.is_whole or value.text in closed):
-        return False
+def _stays_encrypted(value: Node, closed: set[bytes]) -> bool:
+    """Whether a value is an envelope that was not opened, or was pasted whole."""
+    return value.text.startswith(MAGIC) and (value.is_whole or value.text in closed)
+
+
+def _require_text(value: Node) -> None:
+    """Refuses what is no text that can be encrypted."""
     if value.style in (NO_SCALAR, ALIAS) or value.is_key:
         raise Refused(f"{describe_place(value)} {NOT_A_STRING}")
     if value.style in (PLAIN, LITERAL, FOLDED) and not value.text:
         raise Refused(f"{describe_place(value)} {NOTHING_TYPED}")
-    if is_like_a_vault:
+    if value.text.startswith(MAGIC):
         raise Refused(f"{describe_place(value)} {LIKE_A_VAULT}")
-    return True
