@@ -27,9 +27,10 @@ NO_PYYAML = $(PYTHON) has no PyYAML, which the companions need: install it (Debi
 # shared package beside the files that the links point to.
 TOP := $(DESTDIR)$(PREFIX)
 COMPANIONS := $(patsubst companions/ansible-vault-%,%,$(sort $(wildcard companions/ansible-vault-*)))
-MANUALS := $(wildcard man/*.1)
+MANUALS := $(wildcard man/*.[17])
 LIBRARY := lib/ansible-vault
-PAGES := share/man/man1
+# The installed path of a manual page, such as share/man/man1/ansible-vault.1.
+MANUAL_PATH = share/man/man$(subst .,,$(suffix $(1)))/$(notdir $(1))
 BASH_FOLDER := share/bash-completion/completions
 FISH_FOLDER := share/fish/vendor_completions.d
 ifeq ($(PREFIX),/usr)
@@ -39,7 +40,7 @@ ZSH_FOLDER := share/zsh/site-functions
 endif
 DOCUMENTS := share/doc/ansible-vault
 # Each file, with its source after the colon. The documents keep their relative paths, which their links need.
-INSTALLED := bin/ansible-vault:$(PROGRAM) $(foreach page,$(MANUALS),$(page:man/%=$(PAGES)/%):$(page)) \
+INSTALLED := bin/ansible-vault:$(PROGRAM) $(foreach page,$(MANUALS),$(call MANUAL_PATH,$(page)):$(page)) \
 	$(BASH_FOLDER)/ansible-vault:completions/ansible-vault.bash \
 	$(FISH_FOLDER)/ansible-vault.fish:completions/ansible-vault.fish \
 	$(ZSH_FOLDER)/_ansible-vault:completions/ansible-vault.zsh \

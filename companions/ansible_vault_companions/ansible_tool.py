@@ -76,9 +76,9 @@ class AnsibleTool(Tool):
         why = "since this project's is neither beside this program nor on PATH"
         return f"the tool is Ansible's {escape(self.path)} ({self.version}), {why}"
 
-    def announce(self, companion: str) -> None:
+    def announce(self, name: str) -> None:
         if sys.stderr.isatty():
-            write_error(f"{companion}: {self.describe()}")
+            write_error(f"{name}: {self.describe()}")
 
     def run(self, words: list[str], data: bytes, passwords: list[Password], label: str = "") -> bytes:
         command = words[0]

@@ -5,7 +5,7 @@ from __future__ import annotations
 from dataclasses import dataclass
 from typing import Iterable
 
-from ansible_vault_companions.batch.each_envelope import Result, Work, change_envelopes
+from ansible_vault_companions.batch.each_envelope import EnvelopeResult, Work, change_envelopes
 from ansible_vault_companions.batch.places import Place
 from ansible_vault_companions.batch.report import DECRYPTED, FAILED, LISTED, OTHER_LABEL, Report, Total
 from ansible_vault_companions.envelopes import conflicts, damage, file_kinds
@@ -34,7 +34,7 @@ class Check(Work):
     names_values = True
 
     def finish_file(
-        self, found: FoundFile, path: str, parsed: ParsedText, results: Iterable[Result], report: Report
+        self, found: FoundFile, path: str, parsed: ParsedText, results: Iterable[EnvelopeResult], report: Report
     ) -> None:
         why = file_kinds.find_fault(parsed, found.names)
         try:

@@ -17,7 +17,7 @@ from ansible_vault_companions.tool import Decryption, NotDecrypted, Tool
 
 
 # The text that takes the place of an envelope, None if it stays; and the report on it.
-Result = Tuple[Optional[bytes], Report]
+EnvelopeResult = Tuple[Optional[bytes], Report]
 
 
 @dataclass
@@ -33,7 +33,7 @@ class Work:
     done = 0
 
     def finish_file(
-        self, found: FoundFile, path: str, parsed: ParsedText, results: Iterable[Result], report: Report
+        self, found: FoundFile, path: str, parsed: ParsedText, results: Iterable[EnvelopeResult], report: Report
     ) -> bytes | None:
         """Reports on a file when its envelopes are done. Returns its new content; None if it stays."""
         raise NotImplementedError
@@ -59,7 +59,7 @@ class Work:
                 return None
             raise
 
-    def attempt_envelope(self, value: Node, place: Place, is_prose: bool = False) -> Result:
+    def attempt_envelope(self, value: Node, place: Place, is_prose: bool = False) -> EnvelopeResult:
         """What takes the place of an envelope. What fails stays, and is reported."""
         report = Report()
         try:
@@ -79,7 +79,7 @@ class Work:
 
 
 def change_envelopes(
-    parsed: ParsedText, results: Iterable[Result], path: str, report: Report, outer: Place | None = None
+    parsed: ParsedText, results: Iterable[EnvelopeResult], path: str, report: Report, outer: Place | None = None
 ) -> bytes:
     """The data of a file, or of an envelope's plaintext, with what came of its envelopes, in their order."""
     if parsed.hides_envelope:

@@ -10,7 +10,7 @@ from dataclasses import dataclass, field
 from typing import AbstractSet, Collection, Iterator
 
 from ansible_vault_companions import parallel, refusals
-from ansible_vault_companions.batch.each_envelope import Result, Work
+from ansible_vault_companions.batch.each_envelope import EnvelopeResult, Work
 from ansible_vault_companions.batch.places import find_place
 from ansible_vault_companions.batch.report import FAILED, ROTATED, SKIPPED, TO_BE_ROTATED, Entry, Report, Total
 from ansible_vault_companions.envelopes import detection, file_kinds
@@ -37,16 +37,16 @@ class Begun:
     report: Report = field(default_factory=Report)
     # The file, if there is more to do than to report it; and the results for its envelopes.
     parsed: ParsedText | None = None
-    results: list[Future[Result]] = field(default_factory=list)
+    results: list[Future[EnvelopeResult]] = field(default_factory=list)
 
 
 class Runner:
     """Has a companion's work done on files, and adds the reports up."""
 
     def __init__(
-        self, companion: str, work: Work, named: list[str], is_json: bool, marked: AbstractSet[str] = frozenset()
+        self, name: str, work: Work, named: list[str], is_json: bool, marked: AbstractSet[str] = frozenset()
     ) -> None:
-        self.companion = companion
+        self.name = name
         self.work = work
         # The paths of the command line. Files that are found below them may vanish.
         self.named = named
@@ -155,7 +155,7 @@ class Runner:
             if self.is_json:
                 write_line(entry.write_json())
             elif entry.result in (SKIPPED, FAILED):
-                write_error(f"{self.companion}: {entry.write_text(self.work.names_values)}")
+                write_error(f"{self.name}: {entry.write_text(self.work.names_values)}")
 
     def report_unsearched(self, search: Search) -> None:
         """Names each link to a directory that is not searched. That is no failure."""

@@ -11,7 +11,7 @@ from contextlib import suppress
 from dataclasses import dataclass
 from typing import Iterable
 
-from ansible_vault_companions.batch.each_envelope import Result, Work, change_envelopes
+from ansible_vault_companions.batch.each_envelope import EnvelopeResult, Work, change_envelopes
 from ansible_vault_companions.batch.places import Place
 from ansible_vault_companions.batch.report import FAILED, KEPT, OTHER_LABEL, ROTATED, TO_BE_ROTATED, Report, Total
 from ansible_vault_companions.envelopes import file_kinds
@@ -41,7 +41,7 @@ class Rotation(Work):
     is_dry: bool
 
     def finish_file(
-        self, found: FoundFile, path: str, parsed: ParsedText, results: Iterable[Result], report: Report
+        self, found: FoundFile, path: str, parsed: ParsedText, results: Iterable[EnvelopeResult], report: Report
     ) -> bytes | None:
         after = change_envelopes(parsed, results, path, report)
         fault = file_kinds.find_fault(parsed, found.names)

@@ -45,18 +45,20 @@ def indent_lines(text: bytes, margin: bytes, end: bytes) -> bytes:
 def replace_envelope(value: Node, envelope: bytes) -> Replacement:
     """Puts another envelope in its place, in the same layout: a literal stays one, and others get double quotes."""
     if value.style == WHOLE:
-        return Replacement(value.start, value.end, envelope.replace(b"\n", value.ending))
+        return Replacement(value.envelope_start, value.end, envelope.replace(b"\n", value.ending))
     if value.style in (LITERAL, STRAY):
-        return Replacement(value.start, value.end, indent_lines(envelope.rstrip(b"\n"), value.margin, value.ending))
-    return Replacement(value.start, value.end, b'"%s"' % envelope.replace(b"\n", b"\\n"))
+        lines = indent_lines(envelope.rstrip(b"\n"), value.margin, value.ending)
+        return Replacement(value.envelope_start, value.end, lines)
+    return Replacement(value.envelope_start, value.end, b'"%s"' % envelope.replace(b"\n", b"\\n"))
 
 
 def put_plaintext(data: bytes, value: Node, text: bytes) -> list[Replacement]:
     """Puts plaintext in its place: a block becomes a literal if it can, and any other value gets double quotes."""
     if value.style == WHOLE:
-        return [Replacement(value.start, value.end, text)]
+        return [Replacement(value.envelope_start, value.end, text)]
     if value.style == STRAY:
-        return [Replacement(value.start, value.end, indent_lines(text.removesuffix(b"\n"), value.margin, value.ending))]
+        lines = indent_lines(text.removesuffix(b"\n"), value.margin, value.ending)
+        return [Replacement(value.envelope_start, value.end, lines)]
     try:
         characters = text.decode()
     except UnicodeDecodeError:
@@ -75,17 +77,17 @@ def put_envelope(data: bytes, value: Node, envelope: bytes) -> list[Replacement]
     """Puts an envelope in place of a text: as a block, as Ansible's tool does, or within brackets in double quotes.
     What follows a block's header in its line stays."""
     if value.is_flow:
-        return [Replacement(value.begin, value.end, b'"%s"' % envelope.replace(b"\n", b"\\n"))]
+        return [Replacement(value.scalar_start, value.end, b'"%s"' % envelope.replace(b"\n", b"\\n"))]
     # Ansible's tool indents by ten.
-    margin = b" " * (find_column(data, value.begin) + 10)
+    margin = b" " * (find_column(data, value.scalar_start) + 10)
     lines = indent_lines(envelope.rstrip(b"\n"), margin, value.ending)
-    header = BLOCK_HEADER.match(data, value.begin)
+    header = BLOCK_HEADER.match(data, value.scalar_start)
     # Empty lines above a typed text go with it: Ansible reads no envelope below one.
     end = header.end() if header else value.end
     place = find_line_end(data, end)
     stop = max(place, value.end)
     block = Replacement(place, stop, value.ending + lines)
-    return [Replacement(value.begin, end, b"|"), block, drop_blanks(data, stop)]
+    return [Replacement(value.scalar_start, end, b"|"), block, drop_blanks(data, stop)]
 
 
 def drop_blanks(data: bytes, place: int) -> Replacement:
@@ -102,21 +104,21 @@ def put_in_quotes(value: Node, text: str) -> Replacement:
     import json
 
     escaped = re.sub(UNSHOWN, lambda match: f"\\U{ord(match[0]):08x}", json.dumps(text, ensure_ascii=False))
-    return Replacement(value.begin, value.end, escaped.encode())
+    return Replacement(value.scalar_start, value.end, escaped.encode())
 
 
 def _put_literal(data: bytes, value: Node, text: bytes) -> list[Replacement]:
     """The replacements of the header, which tells how the text begins and ends, and of the lines."""
-    header = BLOCK_HEADER.match(data, value.begin)
+    header = BLOCK_HEADER.match(data, value.scalar_start)
     if not header:
         raise Refused(NO_HEADER)
     indicator = b"2" if BEGINS_WITH_BLANK.match(text) else b""
     new_header = b"|" + indicator + _find_chomping(text)
-    margin = b" " * (find_column(data, value.begin) + 2)
+    margin = b" " * (find_column(data, value.scalar_start) + 2)
     # A text that is empty has no line.
-    start = value.start if text else value.start - len(value.ending)
+    start = value.envelope_start if text else value.envelope_start - len(value.ending)
     lines = indent_lines(text.removesuffix(b"\n"), margin, value.ending)
-    return [Replacement(value.begin, header.end(), new_header), Replacement(start, value.end, lines)]
+    return [Replacement(value.scalar_start, header.end(), new_header), Replacement(start, value.end, lines)]
 
 
 def _find_chomping(text: bytes) -> bytes:

@@ -50,8 +50,8 @@ class Node(NamedTuple):
     # The line of its text, from 1; 0 if it is a whole file.
     line: int
     # Where its scalar begins, after tag and anchor, and the bytes that another envelope takes the place of.
-    begin: int
-    start: int
+    scalar_start: int
+    envelope_start: int
     end: int
     # What precedes each line, and the line ending.
     margin: bytes

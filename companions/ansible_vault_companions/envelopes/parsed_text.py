@@ -97,7 +97,7 @@ def parse_envelopes(data: bytes, is_prose: bool = False) -> ParsedText:
     parsed = ParsedText(data, is_prose=True) if is_prose else _read_yaml(data, read_envelopes)
     if BINARY not in data:
         parsed.values += find_strays(data, parsed.values, is_prose)
-        parsed.values.sort(key=lambda value: value.start)
+        parsed.values.sort(key=lambda value: value.envelope_start)
     return parsed
 
 
@@ -138,4 +138,4 @@ def _read_yaml(data: bytes, read: Callable[[bytes], Iterator[Node]]) -> ParsedTe
 def _list_vault(data: bytes) -> list[Node]:
     """The whole of a file as an envelope."""
     ending = b"\r\n" if b"\r\n" in data else b"\n"
-    return [Node(path=(), style=WHOLE, line=0, begin=0, start=0, end=len(data), margin=b"", ending=ending, text=data)]
+    return [Node((), WHOLE, 0, 0, 0, len(data), b"", ending, data)]

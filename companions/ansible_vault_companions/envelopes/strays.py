@@ -17,7 +17,7 @@ LINES_OF_STRAY = (
 
 def find_strays(data: bytes, values: list[Node], is_prose: bool = False) -> Iterator[Node]:
     """The envelopes outside of these values, and those within the text of one that is no envelope, but has the tag."""
-    starts = [value.start for value in values]
+    starts = [value.envelope_start for value in values]
     # After empty lines alone, Ansible reads neither a vault nor a value. A document may begin with an example.
     first = -1 if is_prose else len(data) - len(data.lstrip())
     number, place = 1, 0

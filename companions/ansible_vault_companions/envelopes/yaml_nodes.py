@@ -42,7 +42,7 @@ NOT_YAML = "it cannot be read as YAML: {}"
 WRONG_SYNTAX = "its syntax is wrong"
 NULL = "it has a null character; save it as UTF-8"
 HALF = "it has half a character"
-NOT_UTF_8 = "it is not UTF-8; save it as UTF-8"
+SAVE_AS_UTF_8 = "it is not UTF-8; save it as UTF-8"
 # The key or number of the next node in each collection; None while a key comes next.
 Steps = list[Union[str, int, None]]
 
@@ -92,7 +92,7 @@ def _decode(data: bytes) -> str:
     try:
         return data.decode()
     except UnicodeDecodeError:
-        raise NotYaml(NOT_YAML.format(NOT_UTF_8)) from None
+        raise NotYaml(NOT_YAML.format(SAVE_AS_UTF_8)) from None
 
 
 class _Places:
@@ -177,8 +177,8 @@ def _make_node(data: bytes, places: _Places, ending: bytes, steps: Steps, is_flo
         path=tuple("" if step is None else step for step in steps),
         style=style,
         line=event.start_mark.line + 1 + len(LINE_END.findall(data, first, start)),
-        begin=begin,
-        start=start,
+        scalar_start=begin,
+        envelope_start=start,
         end=end,
         margin=line["margin"] if line else b"",
         ending=own_ending[0] if own_ending else ending,

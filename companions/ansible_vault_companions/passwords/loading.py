@@ -25,7 +25,7 @@ NO_DESCRIPTORS = (
 
 
 def read_passwords(
-    companion: str, sources: list[Source], asking: Asking, skips: bool = False, for_git: bool = False
+    name: str, sources: list[Source], asking: Asking, skips: bool = False, for_git: bool = False
 ) -> list[Password]:
     """Reads the passwords. Those that are ignored stay in the list, since the one to encrypt with is chosen among all
     that are named."""
@@ -33,7 +33,7 @@ def read_passwords(
     passwords = [read_password(source, asking, for_git, has_options) for source in sources]
     ignored = _list_ignored(passwords, skips)
     for password in ignored:
-        write_error(f"{companion}: {escape(password.source.text)}: {password.fault}; it is ignored")
+        write_error(f"{name}: {escape(password.source.text)}: {password.fault}; it is ignored")
     for password in passwords:
         if password.fault and password not in ignored:
             raise password.make_refusal(password.fault)

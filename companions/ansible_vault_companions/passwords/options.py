@@ -32,7 +32,7 @@ ANY_LABEL_HELP = "accept a password whose label differs from the vault's"
 
 def add_options(parser: argparse.ArgumentParser, before: str = "") -> None:
     """Adds the options that name passwords. `before` begins the names of the attributes that get the values."""
-    parser.set_defaults(new_vault_id=[], new_vault_password_file=[], any_label=False, asks_if_none=False, for_git=False)
+    parser.set_defaults(new_vault_id=[], new_vault_password_file=[], any_label=False, asks_if_none=False)
     ids, text = f"{before}vault_id", "the source of a password; may be repeated"
     _add_source(parser, ["--vault-id"], ids, "[LABEL@]SOURCE", text)
     by_path = ["--vault-password-file", "--vault-pass-file"]
@@ -66,25 +66,27 @@ def load_passwords(
     encrypts: bool = False,
     skips: bool = False,
     reads_lines: bool = False,
+    for_git: bool = False,
 ) -> tuple[list[Password], Policy]:
     """The passwords of a command line that is invalid if nothing names one. With `skips`, those that cannot be used are
     ignored; with `reads_lines`, lines of standard input answer if there is no terminal."""
-    return load_named(parser.prog, args, Asking(encrypts, reads_lines), skips, parser)
+    return load_named(parser.prog, args, Asking(encrypts, reads_lines), skips, for_git, parser)
 
 
 def load_named(
-    companion: str,
+    name: str,
     args: argparse.Namespace,
     asking: Asking,
     skips: bool = False,
+    for_git: bool = False,
     parser: argparse.ArgumentParser | None = None,
 ) -> tuple[list[Password], Policy]:
     """The passwords that options and settings name, and what labels mean to them. The parser is for a command line that
     is invalid if nothing names one."""
-    settings = read_settings(args, lambda text: write_error(f"{companion}: {text}"))
+    settings = read_settings(args, lambda text: write_error(f"{name}: {text}"), for_git)
     sources = list_sources(args.vault_id, args.vault_password_file, settings)
     if sources:
-        passwords = loading.read_passwords(companion, sources, asking, skips, args.for_git)
+        passwords = loading.read_passwords(name, sources, asking, skips, for_git)
     else:
         passwords = [_ask_or_refuse(args, asking, parser)]
     requires_match = getattr(args, "require_id_match", False)
@@ -123,8 +125,8 @@ def repeat_options(args: argparse.Namespace) -> list[str]:
     return words
 
 
-def read_settings(args: argparse.Namespace, warn: Callable[[str], None]) -> Settings:
+def read_settings(args: argparse.Namespace, warn: Callable[[str], None], for_git: bool = False) -> Settings:
     """The settings that apply along with these options. What git runs reads none beside an option that names a
     password, so a repository cannot name one."""
     is_named = args.vault_id or args.vault_password_file
-    return Settings(warn, are_read=not (args.for_git and is_named))
+    return Settings(warn, are_read=not (for_git and is_named))
