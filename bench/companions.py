@@ -5,7 +5,8 @@ Usage: companions.py PROGRAM [--vaults N] [--runs N] [--quick]
 
 The bare runs view as many vaults, one on each processor at a time. A rotation is compared with twice their time, since
 it decrypts and encrypts; it also syncs each file. All are run in turn. No two vaults are equal, since equal ones are
-decrypted once. Ansible's tool views and rekeys the same vaults, in one run each. The table is for docs/speed.md.
+decrypted once. Ansible's tool views and rekeys the same vaults, in one run each. docs/compare.md has figures of the
+table.
 """
 
 import os
@@ -88,7 +89,7 @@ def ratio(times: dict[str, Times], name: str, kind: str) -> float:
 
 
 def print_table(times: dict[str, Times], count: int) -> None:
-    """Print the table of docs/speed.md: many vaults in one run."""
+    """Print the table from which docs/compare.md has its figures: many vaults in one run."""
     print(f"\nOn {len(os.sched_getaffinity(0))} processors, {describe_processor()}:\n")
     print("| | companion | its CPU time | Ansible's tool | its CPU time |\n|---|---|---|---|---|")
     for ours, theirs in THEIRS.items():

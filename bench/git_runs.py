@@ -6,7 +6,7 @@ Usage: git_runs.py PROGRAM [--versions N] [--vaults N] [--runs N] [--quick]
 Beside each is the same with a script that only starts the program, the least that a companion could take, and with
 `view` of Ansible's tool. For that, git shows a tenth of the versions and vaults, since all would take minutes. These
 two show no values, so they get the value's envelope as a file. A git command runs once: it starts textconv many times.
-The table, of processor time, is for docs/speed.md.
+The table, of processor time, is for docs/compare.md, which leaves out the script.
 """
 
 import shlex

@@ -17,7 +17,7 @@ from contracts import CRATES, code, declared_in
 from documents import FORMATS, PAGE as VERIFICATION, REFERENCE, WRITTEN, definition_files
 from lib.links import dead_links
 from lib.needs import needs
-from lib.paths import COMPANIONS, PAGE, README, ROOT, sections
+from lib.paths import COMPANIONS, MANUALS, PAGE, README, ROOT, sections
 from lib.processes import run_text
 from model.faults import Fault
 from model.formats import WHITESPACE, is_label
@@ -25,15 +25,16 @@ from model.options import COMMON, OPTIONS
 from picture import PICTURE, draw_picture
 from programs import PROGRAM, commands
 
-DOCUMENTS = [README, ROOT / "CONTRIBUTING.md", *sorted((ROOT / "docs").glob("*.md")), *sorted(PAGE.parent.glob("*.1"))]
+DOCUMENTS = [README, ROOT / "CONTRIBUTING.md", *sorted((ROOT / "docs").glob("*.md")), *MANUALS]
 TEXT = "".join(document.read_text() for document in DOCUMENTS)
 # The exit status of each fault, by its text.
 STATUSES = {fault.line.decode().removeprefix("ERROR! ").strip(): fault.status for fault in Fault}
 # The options of each program and of each of its commands.
 SPELLINGS = {command.line: command.spellings for command in commands()}
 
-# What follows a claim in a list: the calls with their clauses, the definitions, and the tests; or the tests in a row.
-CLAIM = re.compile(r"^- .*?: (`.*)\.$|^\| [^|]* \| [^|]* \| ([^|]*) \|$", re.MULTILINE)
+# What shows a claim, after it in a list, or in the last of a row's three or four columns: the calls with their clauses,
+# the definitions, and the tests.
+CLAIM = re.compile(r"^- .*?: (`.*)\.$|^\|(?: [^|]* \|| \|){2,3} ([^|]*) \|$", re.MULTILINE)
 CONTRACT = re.compile(r"^`([\w:]+)`(?:: ((?:`\w+`(?:, )?)+))?$")
 DEFINITIONS = re.compile(r"((?:`[\w-]+`(?:, | and )?)+) \(`([\w/]+\.antt)`\)")
 TEST = re.compile(r"`(tests/[\w/.]+)`(?:: ((?:`\w+`(?:, )?)+))?")
@@ -55,7 +56,7 @@ def contracts_of(call: str) -> list[str]:
 
 def unproved(page: str) -> Iterator[str]:
     """Yield calls without a contract, and clauses that no contract of the call has."""
-    parts = [part.strip() for proved, _ in CLAIM.findall(page) for part in proved.split(";")]
+    parts = [part.strip() for groups in CLAIM.findall(page) for part in "".join(groups).split(";")]
     for call in filter(None, map(CONTRACT.match, parts)):
         contracts = contracts_of(call[1])
         yield from [] if contracts else [f"{call[1]} has no contract"]
@@ -149,28 +150,28 @@ def test_limits() -> None:
 
 # The sentences of the companions' pages that name a limit, and the limit.
 SENTENCES = [
-    ("check", r"longer than any vault can be \(([\d,]+) bytes\)", LONGEST_VAULT),
-    ("with", r"may take (\d) GiB of memory", memory.MOST >> 30),
-    ("with", r"name up to (\d+) passwords", MOST_PASSWORDS),
+    ("companions", r"longer than any vault can be \(([\d,]+) bytes\)", LONGEST_VAULT),
+    ("companions", r"may take (\d) GiB of memory", memory.MOST >> 30),
+    ("companions", r"name up to (\d+) passwords", MOST_PASSWORDS),
 ]
 
 
 def test_limits_of_companions() -> None:
     """The pages of the companions have the numbers of the code."""
-    texts = {path.stem: " ".join(path.read_text().split()) for path in PAGE.parent.glob("*.1")}
+    texts = {path.stem: " ".join(path.read_text().split()) for path in MANUALS}
     for name, sentence, number in SENTENCES:
         found = re.findall(sentence, texts[f"{PROGRAM}-{name}"])
-        assert found == [f"{number:,}"], f"the numbers of ansible-vault-{name}(1) in {sentence}"
+        assert found == [f"{number:,}"], f"the numbers of ansible-vault-{name} in {sentence}"
 
 
 def test_files_of_companions() -> None:
-    """docs/workflows.md says where to look for them after a crash."""
+    """docs/guide.md says where to look for them after a crash."""
     names = {
         f"{leftovers.PREFIX}*{leftovers.SUFFIX}",
         f"{private_directory.FOLDER_PREFIX}*",
         "~/.local/state/ansible-vault/",
     }
-    end = (ROOT / "docs" / "workflows.md").read_text().partition("## Clean up after a crash")[2]
+    end = (ROOT / "docs" / "guide.md").read_text().partition("## Clean up after a crash")[2]
     assert names <= {*re.findall("`([^`]+)`", end)}
 
 

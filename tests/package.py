@@ -11,7 +11,7 @@ from pathlib import Path
 import pytest
 
 from ansible_vault_companions import OLDEST
-from lib.installed import FILES, NAMES, SHARED, VERSION, check_program, check_starts, compiled_modules, files_below
+from lib.installed import FILES, PAGES, SHARED, VERSION, check_program, check_starts, compiled_modules, files_below
 from lib.installed import printed, run_make
 from lib.needs import needs, needs_root
 from lib.package_root import Root, later, stand_in
@@ -20,7 +20,7 @@ from lib.processes import run_text
 from lib.scripts import searched_first, write_script
 
 PACKAGE_FILES = FILES | {
-    *(f"share/man/man1/{name}.1.gz" for name in NAMES),
+    *(f"{page}.gz" for page in PAGES),
     "share/zsh/vendor-completions/_ansible-vault",
     "share/doc/ansible-vault/copyright",
     "share/doc/ansible-vault/changelog.gz",

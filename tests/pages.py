@@ -8,11 +8,10 @@ from pathlib import Path
 import pytest
 
 from lib.needs import needs
-from lib.paths import COMPANIONS, PAGE, ROOT, sections
+from lib.paths import COMPANIONS, MANUALS, PAGE, ROOT, sections
 from lib.processes import run_text
 
 COLUMNS = 80
-PAGES = sorted(PAGE.parent.glob("*.1"))
 OF_COMPANIONS = {name: sections(PAGE.with_name(f"{name}.1")) for name in COMPANIONS}
 
 
@@ -20,7 +19,7 @@ def test_variables() -> None:
     """A page names each variable that the companions read from the environment."""
     code = "".join(path.read_text() for path in [*COMPANIONS.values(), *(ROOT / "companions").rglob("*.py")])
     read = set(re.findall(r'environ(?:\.get\(|\[)"([A-Z_]+)"', code) + re.findall(r'"(ANSIBLE_[A-Z_]+)", "', code))
-    text = "".join(page.get("ENVIRONMENT", "") for page in OF_COMPANIONS.values())
+    text = "".join(page.get("ENVIRONMENT", "") for page in map(sections, MANUALS))
     assert len(read) > 5
     assert read - {*re.findall(r"\bEv ([A-Z_]+)", text)} == set()
 
@@ -29,11 +28,11 @@ def test_references() -> None:
     """The program's page lists the companions in the words of their own pages, and each page it refers to exists."""
     items = re.findall(r"^\.It Xr (\S+) 1 Ta (.+)$", sections(PAGE)["COMPANIONS"], re.MULTILINE)
     assert dict(items) == {name: page["NAME"].partition(".Nd ")[2].strip() for name, page in OF_COMPANIONS.items()}
-    references = set().union(*(re.findall(r"\bXr (ansible-vault\S*) 1", page.read_text()) for page in PAGES))
-    assert references == {page.stem for page in PAGES}
+    references = set().union(*(re.findall(r"\bXr (ansible-vault\S*) ([17])", page.read_text()) for page in MANUALS))
+    assert {".".join(each) for each in references} == {page.name for page in MANUALS}
 
 
-@pytest.mark.parametrize("page", PAGES, ids=attrgetter("stem"))
+@pytest.mark.parametrize("page", MANUALS, ids=attrgetter("stem"))
 def test_page_as_it_is_shown(page: Path) -> None:
     needs("groff")
     done = run_text(["groff", "-ww", "-mdoc", "-T", "utf8", "-P", "-c", str(page)])

@@ -1,5 +1,6 @@
-"""Run the shell commands of docs/workflows.md and the EXAMPLES of the manual pages as they are. Type what the document
-shows of a terminal, and compare. Run the commands of its files for pipelines and for pre-commit."""
+"""Run the shell commands of docs/guide.md, docs/git.md and docs/ci.md and the EXAMPLES of the manual pages as they are.
+Type what the documents show of a terminal, and compare. Run the commands of their files for pipelines and for
+pre-commit."""
 
 import re
 from collections.abc import Iterator
@@ -17,7 +18,8 @@ from lib.readme import fenced, steps_of
 from lib.repository import MARKS, PASSWORDS, SETTINGS, Repository, block, vault, without_reports
 from model.vaults import yaml_block
 
-DOCUMENT = (ROOT / "docs" / "workflows.md").read_text()
+# The pages, joined.
+DOCUMENT = "\n".join((ROOT / "docs" / page).read_text() for page in ("guide.md", "git.md", "ci.md"))
 PLAYBOOK = '[{hosts: all, gather_facts: false, tasks: [{ansible.builtin.debug: {msg: "{{ %s }}"}}]}]'
 # In place of the password manager. Its entry contains more than the password.
 PASS = b"""\
@@ -53,7 +55,9 @@ def repository(tmp_path: Path, program: str) -> Repository:
 def chapters() -> dict[str, str]:
     """Return the text below each heading of the document."""
     _, *parts = re.split(r"^## (.+)$", DOCUMENT, flags=re.MULTILINE)
-    return dict(zip(parts[::2], parts[1::2]))
+    texts = dict(zip(parts[::2], parts[1::2]))
+    assert 2 * len(texts) == len(parts), "no two pages have the same heading"
+    return texts
 
 
 def recipes() -> dict[str, str]:

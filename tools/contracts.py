@@ -78,19 +78,25 @@ def named_by(item: str) -> Iterator[Path]:
     yield from imported(text, contract[0] if contract and item.startswith("fn ") else None)
 
 
-def reached(items: list[str], laws: list[Path]) -> list[Path]:
-    """Return the files of these calls and types, and the files that their contracts name, directly or not, each after
-    one that names it. Code is needed only for a trait's contracts or for constants, so skip its imports.
-    """
-    found = dict.fromkeys([*(CRATES / file_with(item) for item in items), *laws])
-    waiting = [file for item in items for file in named_by(item)]
-    waiting += [file for law in laws for file in imported(law.read_text())]
+def with_imports(files: list[Path]) -> list[Path]:
+    """Return these files, and those that the definitions among them import, directly or not, each after one that names
+    it."""
+    found, waiting = dict[Path, None](), [*files]
     # The list grows meanwhile.
     for file in waiting:
         if file not in found:
             found[file] = None
             waiting += imported(file.read_text()) if file.suffix == ".antt" else []
     return list(found)
+
+
+def reached(items: list[str], laws: list[Path]) -> list[Path]:
+    """Return the files of these calls and types, and the files that their contracts name, directly or not, each after
+    one that names it. Code is needed only for a trait's contracts or for constants, so skip its imports.
+    """
+    named = [file for item in items for file in named_by(item)]
+    named += [file for law in laws for file in imported(law.read_text())]
+    return list(dict.fromkeys([*(CRATES / file_with(item) for item in items), *laws, *with_imports(named)]))
 
 
 @cache

@@ -1,4 +1,4 @@
-"""Tests of the companions, by topic, and the code that they share.
+"""Tests of the companions, by companion and promise, and the code that they share.
 
 `model.vaults` or Ansible's tool makes the vaults, and `model.vaults` decrypts what the companions write, so no result
 depends on the program itself.
@@ -92,6 +92,8 @@ class Place:
         self.program, self.companions = program, companions
         for each in (program, *companions.glob("ansible-vault-*")):
             (self.tools / each.name).symlink_to(each)
+        # Where a fault makes a companion run its usual editor, that does not wait for somebody.
+        self.script("exit 1", "tools/vi")
         for name, password in PASSWORDS.items():
             (self.secrets / name).write_bytes(password + b"\n")
         kept = {name: value for name, value in os.environ.items() if name in ("PATH", "LANG", "LC_ALL")}

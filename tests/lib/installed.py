@@ -27,8 +27,10 @@ FILES = {
     *(f"lib/ansible-vault/{name}" for name in SHARED),
     *(f"share/doc/ansible-vault/{name}" for name in DOCUMENTS),
 }
+# The paths of the manual pages below the prefix.
+PAGES = {*(f"share/man/man1/{name}.1" for name in NAMES), "share/man/man7/ansible-vault-companions.7"}
 # What `make install` installs below a prefix, except for the checksums.
-PREFIX_FILES = FILES | {*(f"share/man/man1/{name}.1" for name in NAMES), "share/zsh/site-functions/_ansible-vault"}
+PREFIX_FILES = FILES | PAGES | {"share/zsh/site-functions/_ansible-vault"}
 
 
 def run_make(

@@ -5,6 +5,8 @@ from pathlib import Path
 
 ROOT = Path(__file__).resolve().parent.parent.parent
 PAGE = ROOT / "man" / "ansible-vault.1"
+# The manual pages: one for each program, and in section 7 one for what the companions share.
+MANUALS = sorted(PAGE.parent.glob("*.[17]"))
 README = ROOT / "README.md"
 COMPANIONS = {path.name: path for path in sorted((ROOT / "companions").glob("ansible-vault-*"))}
 

@@ -1,0 +1,1 @@
+"""Tests of ansible-vault-hook(1)."""
