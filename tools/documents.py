@@ -1,5 +1,5 @@
 """Update what the documents take from the code: code, places and numbers of lines in docs/verification.md and
-docs/verification-reference.md, the programs in docs/library.md, the faults in docs/formats.md, and the options in the
+docs/verification-reference.md, a program in docs/library.md, the faults in docs/formats.md, and the options in the
 manual pages and completions.
 """
 
@@ -10,7 +10,7 @@ from functools import partial
 from pathlib import Path
 
 import completing
-from contracts import CRATES, code, declared_in, needed
+from contracts import CRATES, code, declared_in, needed, with_imports
 from programs import NAMES, PROGRAM, Option, commands
 
 ROOT = CRATES.parent
@@ -19,19 +19,16 @@ REFERENCE = ROOT / "docs" / "verification-reference.md"
 LIBRARY = ROOT / "docs" / "library.md"
 FORMATS = ROOT / "docs" / "formats.md"
 
-# The code that docs/verification.md prints, in this order: a small contract with its definition, the theorem, and its
-# form for the shipped program, with a definition.
+# The code that docs/verification.md prints, in this order: the theorem for the shipped program, a small contract, and
+# the rounds of the cipher that it names, with two of their steps. If a pattern has groups, only the groups count.
 EXPLAINED = [
-    r"^pub fn password_of\b.*?(?=^\{)",
-    r"^unfoldable pub password_of\b.*?(?=^$)",
-    r"^pub fn drive_over\b.*?(?=^\{)",
-    r"^pub fn drive_host\b.*?(?=^\{)",
-    r"^pub data MakesUp\b.*?(?=^$)",
+    r"^pub fn drive_host\b.*?(^    ensures .*?)(?=^\{)",
+    r"^    pub fn block\b.*?(?=^    \{)",
+    r"(^-- SubBytes \(.*?^$\n^-- ShiftRows \(.*?)^$.*?(^-- round n\b.*)\Z",
 ]
 # The methods that call the standard library on files.
 HOST_CALLS = ("open_to_read", "open_to_write", "metadata", "set_permissions", "set_len", "write_some", "sync_all")
-# All trusted code, whose lines are counted without its contracts, by the first column of a table. If a pattern has
-# groups, only the groups count.
+# All trusted code, whose lines are counted without its contracts, by the first column of a table.
 TRUSTED = {
     "`ansible_vault/src/main.rt`": [r"^fn words\(.*\Z"],
     "`vault_cli/src/system.rt`": [r"(^pub fn drive\b.*?\) -> Status\n).*?(^\{.*?^\})"],
@@ -43,6 +40,9 @@ TRUSTED = {
 BLOCK = re.compile(r"(^```(?:rust|antt)\n)(.*?)(^```$)", re.MULTILINE | re.DOTALL)
 # A call or a definition, and its file below crates/.
 PLACE = re.compile(r"`([\w:]+)` in `(\w+/[\w/]+\.(?:rt|antt))`")
+# A file of definitions after its number of lines, and several after the number that includes what they import.
+SIZE = re.compile(r"\d+(?= lines of `(\w+\.antt)`)")
+SIZES = re.compile(r"[\d,]+(?= lines \(((?:`\w+\.antt`(?:, )?)+)\))")
 # The code that a reader must read: contracts up to the body, or to the empty line after a trait's method, ghost lines
 # and constants.
 CONTRACTS = re.compile(
@@ -74,12 +74,25 @@ def definition_files() -> list[Path]:
 
 
 def printed(pattern: str) -> str:
-    """Return the code that matches a pattern in exactly one file, without comments, ghost lines and empty lines."""
+    """Return the code that matches a pattern in exactly one file, without an indentation that all lines have, empty
+    lines, ghost lines and comments on code."""
     texts = [*code().values(), *(file.read_text() for file in definition_files())]
     matches = [re.search(pattern, text, re.MULTILINE | re.DOTALL) for text in texts]
     [found] = filter(None, matches)
-    lines = ("".join(found.groups()) or found[0]).splitlines()
+    lines = textwrap.dedent("".join(found.groups()) or found[0]).splitlines()
     return "".join(f"{line}\n" for line in lines if line.strip() and not re.match(r" *(//|ghost )", line))
+
+
+def size(found: re.Match[str]) -> str:
+    [file] = [file for file in definition_files() if file.name == found[1]]
+    return str(to_read(file))
+
+
+def sizes(found: re.Match[str]) -> str:
+    names = re.findall(r"[\w.]+", found[1])
+    files = [file for file in definition_files() if file.name in names]
+    assert len(files) == len(names), names
+    return f"{sum(map(to_read, with_imports(files))):,}"
 
 
 def place(found: re.Match[str]) -> str:
@@ -101,7 +114,7 @@ def written(page: str) -> str:
     for file, lines in trusted.items():
         page = re.sub(rf"(?<=^\| {re.escape(file)} \| )\d+", str(lines), page, flags=re.MULTILINE)
     page = re.sub(r"[\d,]+(?= lines to read)", f"{sum(map(to_read, needed()[0])):,}", page)
-    return PLACE.sub(place, page)
+    return PLACE.sub(place, SIZES.sub(sizes, SIZE.sub(size, page)))
 
 
 def listing(found: re.Match[str]) -> str:

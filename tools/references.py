@@ -13,7 +13,7 @@ from pathlib import Path
 # Where the comments of a file are, by its suffix or its name. A page is one comment.
 PAGE, HASHES = r"[\s\S]+", r"(?<!\S)#.*"
 PYTHON = rf'"""[\s\S]*?"""|{HASHES}'
-COMMENTS = dict.fromkeys((".md", ".1", ".source", "control"), PAGE)
+COMMENTS = dict.fromkeys((".md", ".1", ".7", ".source", "control"), PAGE)
 COMMENTS |= dict.fromkeys((".bash", ".fish", ".zsh", ".toml", "Makefile"), HASHES)
 COMMENTS |= {".py": PYTHON, ".rt": r"//.*", ".antt": r"--[ -].*", ".c": r"//.*|/\*[\s\S]*?\*/"}
 # A path has one of these suffixes, or ends with a slash.
@@ -26,7 +26,7 @@ OTHER_PATHS = {"bin", "crates/*/out", "none.rt"}
 # Names of other tools and of languages, parts of names, and names that CHANGELOG.md reports as gone.
 OTHER_NAMES = {
     *("CFLAGS", "LDFLAGS", "RUSTFLAGS", "fg", "su"),
-    *("Send", "bytes.hex", "trusted", "u8::is_ascii_whitespace", "unsafe", "x.entry", "x.new", "x.now", "x.old"),
+    *("Send", "bytes.hex", "u8::is_ascii_whitespace", "unsafe"),
     *("_in", "test_NAME"),
     *("FileSystem", "HostFiles", "set_output"),
 }
