@@ -80,7 +80,7 @@ SHARE ?= 1
 
 .DELETE_ON_ERROR:
 .PHONY: all demo packages check mutants test planted fuzz faults bench install uninstall portable dist package lint \
-	fresh-machine releases clean FORCE
+	fresh-machine releases check-long clean FORCE
 
 all: $(if $(filter file,$(origin PROGRAM)),$(PROGRAM))
 
@@ -225,6 +225,9 @@ fresh-machine:
 # Compare with the Ansible of other Debian releases, as root. RELEASES are their names, by default all.
 releases: all
 	PYTEST_PROCESSES=$(PYTEST_PROCESSES) tools/releases "$(PROGRAM)" $(RELEASES)
+
+# Before a version: all that is slow and rare.
+check-long: mutants planted faults fuzz releases
 
 # Also remove what Python compiled.
 clean:

@@ -114,6 +114,14 @@ def test_links() -> None:
     assert [(page.name, link) for page in PAGES for link in dead_links(page)] == []
 
 
+def test_promises() -> None:
+    """tools/promises finds a promise for each test of the companions."""
+    table = run_text([str(ROOT / "tools" / "promises")]).stdout
+    rows = re.findall(r"^\| (.*) \| \w+/\w+\.py::(\w+) \|$", table, re.MULTILINE)
+    assert len(rows) > 450
+    assert [name for promise, name in rows if not promise] == []
+
+
 def test_messages_and_statuses() -> None:
     """The manual page explains every message, and says of each status what its faults say in their last word."""
     page = sections(PAGE)

@@ -26,7 +26,7 @@ NEEDED = ["git", "python3", "env", "bash", "sh"]
 # A command of the README that no test types, since it runs these tests.
 GATE = ".ci/run"
 # The targets that no command here names: the gate, prerequisites of other targets, and what is run before a release.
-RUN_BY_OTHERS = {"all", "check", "test", "packages", "portable", "fresh-machine", "releases"}
+RUN_BY_OTHERS = {"all", "check", "test", "packages", "portable", "fresh-machine", "releases", "check-long"}
 # Commands that show that a target works, and what each leaves or prints.
 SMALL = {
     "make CPU=x86-64-v3 bin/ansible-vault && bin/ansible-vault --version": r"ansible-vault \d+\.\d+\.\d+\n\Z",
