@@ -58,15 +58,16 @@ def draw(axes: Any, points: list[Point]) -> None:
     axes.set_yticks(ticks, [f"{tick:,}" for tick in ticks])
     axes.set_ylim(ticks[0], ticks[-1])
     axes.minorticks_off()
-    axes.set_title("CPU time of view: lower is better (both scales are logarithmic)")
+    axes.set_title("CPU time of view: lower is better (both scales are logarithmic)", pad=62)
     axes.set_xlabel("size of the plaintext")
     axes.set_ylabel("milliseconds")
     axes.grid(True, alpha=0.3)
-    axes.legend()
+    # Above the lines, which may be anywhere.
+    axes.legend(loc="lower center", bbox_to_anchor=(0.5, 1), frameon=False)
 
 
 def main() -> None:
-    figure, axes = pyplot.subplots(figsize=(6.4, 4.8))
+    figure, axes = pyplot.subplots(figsize=(6.4, 5.4))
     draw(axes, json.load(sys.stdin))
     figure.tight_layout()
     figure.savefig(sys.argv[1], metadata={"Date": None})
