@@ -6,6 +6,10 @@ import os
 import sys
 
 
+# These kinds, and not those below them, such as that of a module that is not there.
+SHORTAGES = {MemoryError, RecursionError, RuntimeError, SystemError, ImportError}
+
+
 def prepare_process() -> None:
     """Turns exceptions that nothing catches into a line, and sets the actions of signals."""
     sys.excepthook = report_failure
@@ -23,7 +27,7 @@ def report_failure(kind: type[BaseException], fault: BaseException, _trace: obje
 
     signals.stop_handling()
     # Such as a lack of memory, or of threads. Python's import of a module may end in a SystemError then.
-    if issubclass(kind, (MemoryError, RuntimeError, SystemError, ImportError, OSError)):
+    if kind in SHORTAGES or issubclass(kind, OSError):
         # It may have come while another one was reported, which may say where a text is kept.
         reasons = [str(fault) or "out of memory", str(fault.__context__ or "")]
         sys.stderr.write(f"{os.path.basename(sys.argv[0])}: {'; '.join(filter(None, reasons))}\n")

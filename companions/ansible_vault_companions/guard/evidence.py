@@ -61,10 +61,12 @@ def may_have_variables(path: bytes) -> bool:
     return os.path.splitext(path)[1].lower() in (b"", b".yml", b".yaml", b".json")
 
 
-def _join_suffixes(files: list[File]) -> Iterator[File]:
+def _join_suffixes(files: list[File], known: Known) -> Iterator[File]:
     """The files. To Ansible, one that is `x.yaml` now, and was `x.yml`, is the same."""
     own = {file: os.path.splitext(file.name)[0] for file in files if may_have_variables(file.name)}
-    gone = {name: file for file, name in own.items() if not file.blob}
+    # Of several that are gone, it was the one that was encrypted.
+    removed = sorted((file for file in own if not file.blob), key=lambda file: known.find(file.before).is_encrypted)
+    gone = {own[file]: file for file in removed}
     new = {file: gone[name] for file, name in own.items() if not file.before and name in gone}
     replaced = {*new.values()}
     for file in files:
@@ -75,7 +77,7 @@ def _join_suffixes(files: list[File]) -> Iterator[File]:
 class Evidence:
     def __init__(self, changes: Changes, known: Known, attributes: Mapping[bytes, Attributes]) -> None:
         self.changes = changes
-        self.files = [*_join_suffixes(changes.files)]
+        self.files = [*_join_suffixes(changes.files, known)]
         self.known = known
         self.attributes = attributes
         self.since = changes.since

@@ -6,7 +6,13 @@ import os
 import re
 from typing import Iterator, NamedTuple
 
-from ansible_vault_companions.envelopes.damage import NOT_ENCRYPTED, TAGGED, find_damage, find_unencrypted, is_unmerged
+from ansible_vault_companions.envelopes.damage import (
+    NOT_ENCRYPTED,
+    find_damage,
+    find_tagged,
+    find_unencrypted,
+    is_unmerged,
+)
 from ansible_vault_companions.envelopes.detection import may_have_envelope
 from ansible_vault_companions.envelopes.header import MAGIC
 from ansible_vault_companions.envelopes.node import ALIAS, JSON_KEY, NO_SCALAR, Node
@@ -21,7 +27,10 @@ TOO_LONG = f"it has over {LONGEST_PLAINTEXT:,} bytes"
 # How a tag such as `!!null` begins.
 STANDARD_TAGS = "tag:yaml.org,2002:"
 # What may replace a secret: nothing, a locked account's password, or only Jinja expressions.
-PLACEHOLDER = re.compile(rb"(?i:~|null|[!*])?|(?:\s|\{\{(?:'[^']*'|\"[^\"]*\"|\{[^{}]*\}|[^{}])+\}\})+")
+PLACEHOLDER = re.compile(
+    rb"(?i:~|null|[!*])?|" rb"(?:\s|\{\{(?:'(?:[^'\\]|\\.)*'|\"(?:[^\"\\]|\\.)*\"|\{[^{}]*\}|[^{}'\"])+\}\})+",
+    re.DOTALL,
+)
 
 
 class Facts(NamedTuple):
@@ -41,6 +50,10 @@ class Facts(NamedTuple):
     @property
     def has_value(self) -> bool:
         return any(text.is_encrypted for text in self.texts)
+
+    @property
+    def is_encrypted(self) -> bool:
+        return self.is_vault or self.has_value
 
 
 def find_facts(content: Content, needs_plain: bool) -> Facts:
@@ -66,7 +79,7 @@ def find_facts(content: Content, needs_plain: bool) -> Facts:
         envelopes=sum(value.is_envelope for value in parsed.values),
         damage=find_damage(parsed),
         is_unmerged=is_unmerged(parsed),
-        tagged=_find_tagged(parsed),
+        tagged=find_tagged(parsed),
         unencrypted=find_unencrypted(parsed),
         texts=texts,
     )
@@ -88,10 +101,3 @@ def _read_name(node: Node) -> bytes:
 
 def is_placeholder(text: bytes) -> bool:
     return PLACEHOLDER.fullmatch(text.strip()) is not None
-
-
-def _find_tagged(parsed: ParsedText) -> str:
-    for value in parsed.values:
-        if value.is_tagged and not value.is_envelope and not is_placeholder(value.text):
-            return TAGGED.format(value.line)
-    return ""

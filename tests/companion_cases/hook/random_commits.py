@@ -173,7 +173,10 @@ def test_commits(own_repository: Path) -> None:
             head = {**team.files}
             leaks = ((way, name) for way in random.sample([*LEAKS], len(LEAKS)) for name in team.leak(way))
             for way, name in islice(leaks, 1):
-                assert find_refused(own_repository, team.files) == {name}, way
+                refused = find_refused(own_repository, team.files)
+                # A file that was renamed and changed may by chance have the length of the vault's text, too.
+                chance = below(team.files).keys() - below(team.head).keys() if way == "vault, unchanged" else set()
+                assert name in refused and refused <= {name, *chance}, way
                 counts[way] += 1
             find_refused(own_repository, head)
 
