@@ -155,7 +155,7 @@ def test_messages(cases: Cases) -> None:
 
 
 def test_salt_of_a_variable(both: Both) -> None:
-    """As the page says, releases of the last column use it."""
+    """As the page says, releases since 2.19 use it."""
     words = ["encrypt", *both.options, *both.choice, "--output", "-", both.cases.file(b"a: 1\n")]
     done = both.run([both.ansible, *words], ANSIBLE_VAULT_ENCRYPT_SALT="a salt")
     assert (salt_of(done.stdout) == b"a salt") == (ansible_release() >= (2, 19)), done.stderr
