@@ -7,8 +7,8 @@ Each tool runs five times or more. The table shows the median, and the minimum a
 compares the medians, with the extremes of single turns in parentheses. It is of processor time, which other work on the
 machine affects least; a ratio of wall-clock times is printed only if both times agree. Below the times are the
 instructions of one run of this tool, as Valgrind counts them. The tests' own Python makes the vaults. Ansible's tool is
-found as `tests/lib/ansible.py` says. The last lines are the table of docs/compare.md. The chart shows the time of
-`view` against the size of the vault.
+found as `tests/lib/ansible.py` says. The last lines are a table, some of which is in docs/compare.md. The chart shows
+the time of `view` against the size of the vault.
 """
 
 import argparse
@@ -53,7 +53,7 @@ GOALS = {
     "encrypt, 1 MiB": 8,
     "rekey, 1 KiB": 13,
 }
-# The rows of the table in docs/compare.md, and their names there.
+# The rows of the table for docs/compare.md, and their names.
 TABLE = {
     "view, 1 KiB": "`view`, 1 KiB",
     "view, 1 MiB": "`view`, 1 MiB",
@@ -194,7 +194,7 @@ def heading(with_theirs: bool, kind: str) -> str:
 
 
 def print_table(measured: dict[str, dict[str, Times]], runs: int, kind: str) -> None:
-    """Print the table as it appears in docs/compare.md."""
+    """Print the table from which docs/compare.md has its figures."""
     print(f"\nTimes of {TIMES[kind]}: the median of {runs} runs, and in parentheses the least and the most.")
     print(f"Processor: {describe_processor()}\n")
     print("| | this tool | Ansible's tool | times faster |\n|---|---|---|---|")
