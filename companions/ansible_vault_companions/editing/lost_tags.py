@@ -12,7 +12,7 @@ from ansible_vault_companions.editing.matching import DecryptedValue
 from ansible_vault_companions.envelopes.key_paths import KeyPath
 from ansible_vault_companions.envelopes.layout import Replacement, apply_replacements
 from ansible_vault_companions.envelopes.node import Node
-from ansible_vault_companions.envelopes.parsed_text import ParsedText
+from ansible_vault_companions.envelopes.parsed_text import ParsedYaml
 
 
 class Lost(NamedTuple):
@@ -22,7 +22,7 @@ class Lost(NamedTuple):
     is_at_key: bool
 
 
-def find_lost(gone: Iterable[DecryptedValue], before: list[ParsedText], after: ParsedText) -> Iterator[Lost]:
+def find_lost(gone: Iterable[DecryptedValue], before: list[ParsedYaml], after: ParsedYaml) -> Iterator[Lost]:
     """Those of the values whose envelope is gone that have lost their tag. What was in plaintext before, in the file or
     in a side of a conflict, does not count."""
     words_before = [_list_words(_leave_out_values(parsed)) for parsed in before]
@@ -33,9 +33,9 @@ def find_lost(gone: Iterable[DecryptedValue], before: list[ParsedText], after: P
         return _count(words, words_after) > max(_count(words, each) for each in words_before)
 
     at_path: dict[KeyPath, list[Node]] = defaultdict(list)
-    for value in after.values:
-        if not value.is_tagged and value.text.strip():
-            at_path[value.path].append(value)
+    for node in after.nodes:
+        if not node.is_tagged and node.text.strip():
+            at_path[node.path].append(node)
     for old in gone:
         # An item of a list may be at the place of another.
         others = at_path[old.value.path] if old.value.name or not old.value.path else []
@@ -44,9 +44,9 @@ def find_lost(gone: Iterable[DecryptedValue], before: list[ParsedText], after: P
             yield Lost(old.value, is_at_key)
 
 
-def _leave_out_values(parsed: ParsedText) -> bytes:
+def _leave_out_values(parsed: ParsedYaml) -> bytes:
     """The plaintext of a file: what is left without the values that are encrypted."""
-    values = (Replacement(value.scalar_start, value.end, b"") for value in parsed.values if value.is_tagged)
+    values = (Replacement(value.scalar_start, value.end, b"") for value in parsed.nodes if value.is_tagged)
     return apply_replacements(parsed.data, values)
 
 

@@ -15,10 +15,9 @@ from ansible_vault_companions.envelopes.node import ALIAS, NO_SCALAR, Node
 from ansible_vault_companions.envelopes.parsed_text import (
     NO_SCALAR_THERE,
     VALUE_NOT_ENCRYPTED,
-    ParsedText,
+    ParsedYaml,
     parse_nodes,
     require_nodes,
-    rewrite,
 )
 from ansible_vault_companions.envelopes.pointers import refuse_pointer
 from ansible_vault_companions.files import reading, replacing
@@ -68,18 +67,18 @@ def _require_encryptable(value: Node, path: str, is_chosen: bool) -> None:
         raise Refused(VALUE_NOT_ENCRYPTED.format(escape(path)) + HOW_TO_ENCRYPT)
 
 
-def _put(parsed: ParsedText, value: Node, path: str, envelope: bytes) -> bytes:
+def _put(parsed: ParsedYaml, value: Node, path: str, envelope: bytes) -> bytes:
     """The file with an envelope as this value."""
     changes = put_envelope(parsed.data, value, envelope)
     if not value.is_tagged:
         changes = _add_tag(changes, value)
     try:
-        return rewrite(parsed, changes, {value: envelope}).data
+        return parsed.rewrite(changes, {value: envelope}).data
     except Refused:
         raise Refused(NO_PLACE_IN_YAML.format(escape(path))) from None
 
 
-def _parse(data: bytes, path: str, is_chosen: bool) -> ParsedText:
+def _parse(data: bytes, path: str, is_chosen: bool) -> ParsedYaml:
     """The nodes of a file. If the password is chosen, a single key that is missing is added at the end, with an empty
     value, unless that would change others."""
     refuse_pointer(data)
@@ -97,9 +96,9 @@ def _parse(data: bytes, path: str, is_chosen: bool) -> ParsedText:
     return after
 
 
-def _list_texts(parsed: ParsedText) -> list[tuple[KeyPath, bytes]]:
+def _list_texts(parsed: ParsedYaml) -> list[tuple[KeyPath, bytes]]:
     """All nodes, except the empty one of a file without any."""
-    return [(value.path, value.text) for value in parsed.values if value.path or value.text]
+    return [(node.path, node.text) for node in parsed.nodes if node.path or node.text]
 
 
 def _add_key(data: bytes, key: str) -> bytes:

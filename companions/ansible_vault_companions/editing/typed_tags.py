@@ -12,7 +12,7 @@ from collections import Counter
 from collections.abc import Iterable, Iterator
 
 from ansible_vault_companions.envelopes.node import NO_SCALAR, PLAIN, Node
-from ansible_vault_companions.envelopes.parsed_text import ParsedText
+from ansible_vault_companions.envelopes.parsed_text import ParsedYaml
 from ansible_vault_companions.refusals import Refused
 
 # Behind another character of its line, it is text.
@@ -45,7 +45,7 @@ def refuse_directive(data: bytes) -> None:
         raise Refused(HAS_DIRECTIVE.format(data.count(b"\n", 0, found.start()) + 1))
 
 
-def check_typed_tags(shown: bytes, saved: ParsedText) -> None:
+def check_typed_tags(shown: bytes, saved: ParsedYaml) -> None:
     """Refuses a saved text if something in its new lines looks like the tag of a value and is none, or is that of only
     a part of what is typed after it. A line with another margin is no new one."""
     known = Counter(line.strip() for line in shown.splitlines())
@@ -55,9 +55,9 @@ def check_typed_tags(shown: bytes, saved: ParsedText) -> None:
             raise Refused(why.format(number))
 
 
-def _find_faults(saved: ParsedText) -> Iterator[tuple[int, bytes, str]]:
+def _find_faults(saved: ParsedYaml) -> Iterator[tuple[int, bytes, str]]:
     """The number and content of each line with something that looks like a tag, and what is wrong with it."""
-    values = [value for value in saved.values if value.is_tagged]
+    values = [value for value in saved.nodes if value.is_tagged]
     begins = [value.scalar_start for value in values]
     place = 0
     for number, line in enumerate(saved.data.splitlines(keepends=True), 1):

@@ -25,7 +25,7 @@ from ansible_vault_companions.envelopes.layout import (
     put_plaintext,
 )
 from ansible_vault_companions.envelopes.node import ALIAS, FOLDED, LITERAL, NO_SCALAR, PLAIN, Node
-from ansible_vault_companions.envelopes.parsed_text import ParsedText, require_nodes, rewrite
+from ansible_vault_companions.envelopes.parsed_text import ParsedYaml, require_nodes
 from ansible_vault_companions.parallel import work_at_once
 from ansible_vault_companions.quoting import escape
 from ansible_vault_companions.refusals import Refused
@@ -54,20 +54,20 @@ class YamlText:
         refuse_directive(data)
         parsed = require_nodes(data)
         self.data = data
-        self.tagged = [value for value in parsed.values if value.is_tagged]
+        self.tagged = [value for value in parsed.nodes if value.is_tagged]
         results = work_at_once(lambda value: _try_to_open(data, value, decrypt), self.tagged)
         # The values that are shown in plaintext; and those that stay encrypted, and why.
         self.opened = [each for each in results if isinstance(each, DecryptedValue)]
         self.faults = [(value, why) for value, why in zip(self.tagged, results) if isinstance(why, Refused)]
         self.shown = self._show(parsed)
 
-    def _show(self, parsed: ParsedText) -> ParsedText:
+    def _show(self, parsed: ParsedYaml) -> ParsedYaml:
         """The text with blocks where they can be, or else, if a comment below one would be part of it, without any."""
         texts = {old.value: old.text for old in self.opened}
         try:
-            return rewrite(parsed, [change for old in self.opened for change in _make_block(self.data, old)], texts)
+            return parsed.rewrite([change for old in self.opened for change in _make_block(self.data, old)], texts)
         except Refused:
-            return rewrite(parsed, [put_in_quotes(old.value, old.text.decode()) for old in self.opened], texts)
+            return parsed.rewrite([put_in_quotes(old.value, old.text.decode()) for old in self.opened], texts)
 
 
 class YamlDraft:
@@ -108,23 +108,23 @@ class YamlDraft:
         refuse_directive(text)
         after = require_nodes(text)
         closed = {value.text for value, _ in self.faults}
-        typed = [value for value in after.values if value.is_tagged and not _stays_encrypted(value, closed)]
+        typed = [value for value in after.nodes if value.is_tagged and not _stays_encrypted(value, closed)]
         for value in typed:
             _require_text(value)
         check_typed_tags(self.plaintext, after)
         matches = find_matches(self.opened, typed, self.choice)
         envelopes = work_at_once(lambda pair: _seal(tool, *pair), zip(typed, matches))
         changes = [change for pair in zip(typed, matches, envelopes) for change in _write(text, *pair)]
-        saved = rewrite(after, changes, dict(zip(typed, envelopes)))
+        saved = after.rewrite(changes, dict(zip(typed, envelopes)))
         return Saved(saved.data, [*_describe_encrypted(typed, matches), *self._describe_plaintext(saved, matches)])
 
-    def _describe_plaintext(self, saved: ParsedText, matches: list[Match]) -> Iterator[str]:
+    def _describe_plaintext(self, saved: ParsedYaml, matches: list[Match]) -> Iterator[str]:
         """Names the values that have lost their tag, and the new ones with something like it."""
         shown = [side.shown for side in self.sides]
         kept = {match.kept for match in matches}
         for value, is_at_key in find_lost([old for old in self.opened if old not in kept], shown, saved):
             yield (IN_PLAINTEXT if is_at_key else TEXT_IN_PLAINTEXT).format(_describe_path(value))
-        for value in find_other_tags([value for side in shown for value in side.values], saved.values):
+        for value in find_other_tags([node for side in shown for node in side.nodes], saved.nodes):
             yield OTHER_TAG.format(_describe_path(value))
 
 

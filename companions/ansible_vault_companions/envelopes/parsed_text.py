@@ -10,8 +10,8 @@ joined: it has only strays.
 
 from __future__ import annotations
 
-from collections.abc import Callable, Iterable, Iterator
-from functools import partial
+from collections.abc import Callable, Iterable, Iterator, Sequence
+from typing import NamedTuple
 
 from ansible_vault_companions.envelopes.detection import may_have_envelope
 from ansible_vault_companions.envelopes.header import MAGIC
@@ -33,17 +33,16 @@ NO_SCALAR_THERE = "{} is a list, a mapping or an alias; name a value in it"
 VALUE_NOT_ENCRYPTED = "{} is not encrypted"
 
 
-class ParsedText:
-    """The bytes of a file or of a plaintext, and what was read from them."""
+class ParsedText(NamedTuple):
+    """The bytes of a file or of a plaintext, and the envelopes in them."""
 
-    def __init__(self, data: bytes, values: Iterable[Node] = (), fault: str = "", is_prose: bool = False) -> None:
-        self.data = data
-        # Whether it is a document that need not be encrypted.
-        self.is_prose = is_prose
-        # What parse_envelopes or parse_nodes finds.
-        self.values = [*values]
-        # Why it cannot be read as YAML, empty if it can or need not be.
-        self.fault = fault
+    data: bytes
+    # The envelopes, and what only has their tag.
+    values: Sequence[Node] = ()
+    # Why it cannot be read as YAML, empty if it can or need not be.
+    fault: str = ""
+    # Whether it is a document that need not be encrypted.
+    is_prose: bool = False
 
     @property
     def is_vault(self) -> bool:
@@ -61,24 +60,44 @@ class ParsedText:
 
     def replace_envelopes(self, new: dict[Node, bytes]) -> bytes:
         """The data with new envelopes in place of these."""
-        changes = [replace_envelope(value, text) for value, text in new.items()]
-        if self.is_vault:
-            return apply_replacements(self.data, changes)
-        return rewrite(self, changes, new, partial(parse_envelopes, is_prose=self.is_prose)).data
+        after = apply_replacements(self.data, [replace_envelope(value, text) for value, text in new.items()])
+        if not self.is_vault:
+            _require_texts(self.values, new, parse_envelopes(after, self.is_prose).values)
+        return after
+
+
+class ParsedYaml(NamedTuple):
+    """A text in YAML, and every node of it, as edits, typed paths and the hook need them."""
+
+    data: bytes
+    nodes: Sequence[Node] = ()
+    # Why it cannot be read, empty if it can.
+    fault: str = ""
+
+    def select_envelopes(self) -> ParsedText:
+        """The envelopes, those outside of nodes last, and every node that only has their tag, even a list."""
+        values = [node for node in self.nodes if node.is_value]
+        return ParsedText(self.data, [*values, *find_strays(self.data, values)], self.fault)
+
+    def rewrite(self, changes: Iterable[Replacement], texts: dict[Node, bytes]) -> ParsedYaml:
+        """The text with these changes. It is read again: these nodes have the new texts, and all others stay."""
+        after = parse_nodes(apply_replacements(self.data, changes))
+        _require_texts(self.nodes, texts, after.nodes)
+        return after
 
     def list_values_at(self, path: str) -> list[Node]:
         """The values at a typed path that are encrypted or have the tag, else all nodes there. A list item may also be
         written as `[]`."""
         steps = parse_path(path)
-        values = [value for value in self.values if leads_to(steps, value.path)]
-        return [value for value in values if value.is_value] or values
+        nodes = [node for node in self.nodes if leads_to(steps, node.path)]
+        return [node for node in nodes if node.is_value] or nodes
 
     def find_value_at(self, path: str, names_others: bool = True) -> Node:
         """The only one of the values at a typed path. A refusal names the others, unless that is forbidden."""
         values = self.list_values_at(path)
         if not values:
-            is_listed = names_others and len(self.envelopes) <= MOST_LISTED
-            names = [escape(value.typed_path) for value in self.envelopes] if is_listed else []
+            envelopes = [node for node in self.nodes if node.is_envelope] if names_others else []
+            names = [escape(node.typed_path) for node in envelopes] if len(envelopes) <= MOST_LISTED else []
             listed = f"; encrypted here: {', '.join(names)}" if names else ""
             raise Refused(f"there is no value {escape(path)}{listed}")
         if len(values) > 1:
@@ -94,19 +113,19 @@ def parse_envelopes(data: bytes, is_prose: bool = False) -> ParsedText:
         return ParsedText(data, _list_vault(data))
     if not may_have_envelope(data):
         return ParsedText(data, is_prose=is_prose)
-    parsed = ParsedText(data, is_prose=True) if is_prose else _read_yaml(data, read_envelopes)
-    if BINARY not in data:
-        parsed.values += find_strays(data, parsed.values, is_prose)
-        parsed.values.sort(key=lambda value: value.envelope_start)
-    return parsed
+    values, fault = ([], "") if is_prose else _read_yaml(data, read_envelopes)
+    values = sorted([*values, *find_strays(data, values, is_prose)], key=lambda value: value.envelope_start)
+    return ParsedText(data, values, fault, is_prose)
 
 
-def parse_nodes(data: bytes) -> ParsedText:
+def parse_nodes(data: bytes) -> ParsedYaml:
     """Every node of a text in YAML."""
-    return ParsedText(data, _list_vault(data)) if data.startswith(MAGIC) else _read_yaml(data, read_nodes)
+    if data.startswith(MAGIC):
+        return ParsedYaml(data, _list_vault(data))
+    return ParsedYaml(data, *_read_yaml(data, read_nodes))
 
 
-def require_nodes(data: bytes) -> ParsedText:
+def require_nodes(data: bytes) -> ParsedYaml:
     """Every node of a text, which must be YAML."""
     parsed = parse_nodes(data)
     if parsed.fault:
@@ -114,25 +133,19 @@ def require_nodes(data: bytes) -> ParsedText:
     return parsed
 
 
-def rewrite(
-    before: ParsedText,
-    changes: Iterable[Replacement],
-    texts: dict[Node, bytes],
-    parse: Callable[[bytes], ParsedText] = parse_nodes,
-) -> ParsedText:
-    """A text with these changes. It is read again: these nodes have the new texts, and all others stay."""
-    after = parse(apply_replacements(before.data, changes))
-    wanted = [(value.path, texts.get(value, value.text)) for value in before.values]
-    if [(value.path, value.text) for value in after.values] != wanted:
+def _require_texts(before: Iterable[Node], new: dict[Node, bytes], after: Iterable[Node]) -> None:
+    """Refuses nodes with other texts than these, or than they had before."""
+    wanted = [(node.path, new.get(node, node.text)) for node in before]
+    if [(node.path, node.text) for node in after] != wanted:
         raise Refused(NOT_WRITABLE)
-    return after
 
 
-def _read_yaml(data: bytes, read: Callable[[bytes], Iterator[Node]]) -> ParsedText:
+def _read_yaml(data: bytes, read: Callable[[bytes], Iterator[Node]]) -> tuple[list[Node], str]:
+    """Nodes of a text, and why it cannot be read, which is empty if it can."""
     try:
-        return ParsedText(data, read(data))
+        return [*read(data)], ""
     except NotYaml as fault:
-        return ParsedText(data, fault=str(fault))
+        return [], str(fault)
 
 
 def _list_vault(data: bytes) -> list[Node]:

@@ -7,6 +7,7 @@ from bisect import bisect_right
 from collections.abc import Iterator
 
 from ansible_vault_companions.envelopes.node import LOOSE, STRAY, WITH_DIGITS, Node
+from ansible_vault_companions.envelopes.yaml_nodes import BINARY
 
 # The lines of an envelope, each after the same margin. Most files have none, so this is compiled when there is one.
 LINES_OF_STRAY = (
@@ -16,7 +17,10 @@ LINES_OF_STRAY = (
 
 
 def find_strays(data: bytes, values: list[Node], is_prose: bool = False) -> Iterator[Node]:
-    """The envelopes outside of these values, and those within the text of one that is no envelope, but has the tag."""
+    """The envelopes outside of these values, and those within the text of one that is no envelope, but has the tag. A
+    binary file has none."""
+    if BINARY in data:
+        return
     starts = [value.envelope_start for value in values]
     # After empty lines alone, Ansible reads neither a vault nor a value. A document may begin with an example.
     first = -1 if is_prose else len(data) - len(data.lstrip())

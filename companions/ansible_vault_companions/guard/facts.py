@@ -16,9 +16,7 @@ from ansible_vault_companions.envelopes.damage import (
 from ansible_vault_companions.envelopes.detection import may_have_envelope
 from ansible_vault_companions.envelopes.header import MAGIC
 from ansible_vault_companions.envelopes.node import ALIAS, JSON_KEY, NO_SCALAR, Node
-from ansible_vault_companions.envelopes.parsed_text import ParsedText, parse_nodes
-from ansible_vault_companions.envelopes.strays import find_strays
-from ansible_vault_companions.envelopes.yaml_nodes import BINARY
+from ansible_vault_companions.envelopes.parsed_text import ParsedText, ParsedYaml, parse_nodes
 from ansible_vault_companions.git.contents import Content
 from ansible_vault_companions.guard.list_items import Text
 from ansible_vault_companions.limits import LONGEST_PLAINTEXT
@@ -63,20 +61,18 @@ def find_facts(content: Content, needs_plain: bool) -> Facts:
         return Facts(is_vault=True, unencrypted="") if data.startswith(MAGIC) else Facts(fault=TOO_LONG)
     if not data.strip():
         return Facts(is_empty=True, unencrypted="")
-    parsed = ParsedText(data)
-    if parsed.is_vault:
-        return Facts(is_vault=True, damage=find_damage(parsed), is_unmerged=is_unmerged(parsed), unencrypted="")
+    if data.startswith(MAGIC):
+        vault = ParsedText(data)
+        return Facts(is_vault=True, damage=find_damage(vault), is_unmerged=is_unmerged(vault), unencrypted="")
     if not (needs_plain or may_have_envelope(data)):
         return Facts()
-    parsed = parse_nodes(data)
-    texts = (*_list_texts(parsed),)
-    parsed.values = [node for node in parsed.values if node.is_value]
-    if BINARY not in data:
-        parsed.values += find_strays(data, parsed.values)
+    yaml = parse_nodes(data)
+    texts = (*_list_texts(yaml),)
+    parsed = yaml.select_envelopes()
     return Facts(
         is_empty=not parsed.fault and not any(text.is_encrypted or not is_placeholder(text.text) for text in texts),
         fault=parsed.fault,
-        envelopes=sum(value.is_envelope for value in parsed.values),
+        envelopes=len(parsed.envelopes),
         damage=find_damage(parsed),
         is_unmerged=is_unmerged(parsed),
         tagged=find_tagged(parsed),
@@ -85,9 +81,9 @@ def find_facts(content: Content, needs_plain: bool) -> Facts:
     )
 
 
-def _list_texts(parsed: ParsedText) -> Iterator[Text]:
-    anchors = {node.anchor for node in parsed.values if node.style != ALIAS}
-    for node in parsed.values:
+def _list_texts(yaml: ParsedYaml) -> Iterator[Text]:
+    anchors = {node.anchor for node in yaml.nodes if node.style != ALIAS}
+    for node in yaml.nodes:
         if node.style == NO_SCALAR or node.style == ALIAS and node.anchor in anchors:
             continue
         path = node.path[:-1] if node.path[-1:] == (JSON_KEY,) else node.path

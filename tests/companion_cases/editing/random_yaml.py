@@ -112,7 +112,7 @@ def shown_text(envelope: str) -> str:
 def check_changed(file: YamlDraft, generator: random.Random) -> bool:
     """Change a value of the shown text. Return whether there is one that PyYAML can still read."""
     text = file.plaintext
-    shown = [value for value in require_nodes(text).values if value.is_tagged and not value.is_envelope]
+    shown = [value for value in require_nodes(text).nodes if value.is_tagged and not value.is_envelope]
     if not shown:
         return False
     value, typed = generator.choice(shown), generator.choice(TYPED)
@@ -147,5 +147,5 @@ def check_after(file: YamlDraft, edited: bytes, after: bytes, read: list[tuple[K
     wanted = [(path, text.split()) for (path, _), text in zip(read, envelopes)]
     assert [(path, text.split()) for path, text in tagged(after) or []] == wanted, (edited, after)
     scalars_before = Counter(old.scalar for old in file.opened)
-    lost = scalars_before - Counter(after[value.scalar_start : value.end] for value in require_nodes(after).values)
+    lost = scalars_before - Counter(after[node.scalar_start : node.end] for node in require_nodes(after).nodes)
     assert sum(lost.values()) <= 1, (edited, after)

@@ -6,7 +6,7 @@ from __future__ import annotations
 import json
 import re
 from collections import Counter
-from collections.abc import Callable, Iterable, Iterator
+from collections.abc import Iterable, Iterator
 from itertools import product
 from random import Random
 from typing import NamedTuple
@@ -291,9 +291,9 @@ def list_composed(data: bytes) -> list[tuple[KeyPath, str]] | None:
     return None if values is None else [text_at(value.path, value.text) for value in values]
 
 
-def check_places(data: bytes, parse: Callable[[bytes], ParsedText]) -> None:
+def check_places(data: bytes, values: Iterable[Node]) -> None:
     """Check that each place is within the content, even if it is no YAML."""
-    for value in parse(data).values:
+    for value in values:
         is_in_order = 0 <= value.scalar_start <= value.envelope_start <= value.end <= len(data)
         assert is_in_order or value.style == STRAY, (value, data)
 
@@ -315,9 +315,6 @@ def check_replaced(data: bytes, parsed: ParsedText, new: dict[Node, bytes]) -> N
     assert list_composed(after) == wanted, (data, after)
 
 
-PARSERS: list[Callable[[bytes], ParsedText]] = [parse_nodes, parse_envelopes, parse_envelopes]
-
-
 def test_random_yaml(monkeypatch: pytest.MonkeyPatch, pytestconfig: pytest.Config) -> None:
     counts: Counter[str] = Counter()
     for number in range(800):
@@ -325,7 +322,7 @@ def test_random_yaml(monkeypatch: pytest.MonkeyPatch, pytestconfig: pytest.Confi
         monkeypatch.setattr(yaml, "CSafeLoader", LOADERS[number % 2], raising=False)
         data = Generator(random).data()
         damaged = data[: random.randrange(999)] + random.randbytes(9) + data
-        check_places(damaged, PARSERS[number % 3])
+        check_places(damaged, parse_envelopes(damaged).values if number % 3 else parse_nodes(damaged).nodes)
         wanted = list_composed(data)
         if wanted is None:
             continue
@@ -386,7 +383,7 @@ def test_words_of_mistakes(monkeypatch: pytest.MonkeyPatch, loader: type) -> Non
 def read_texts(data: bytes) -> list[bytes]:
     parsed = parse_nodes(data)
     assert not parsed.fault, (data, parsed.fault)
-    return [value.text for value in parsed.values if value.path]
+    return [node.text for node in parsed.nodes if node.path]
 
 
 BLANKS = ["", "", " ", "\t", "  "]
@@ -434,7 +431,7 @@ def test_tags(monkeypatch: pytest.MonkeyPatch, loader: type) -> None:
     for tag, gap, around, style in product(tags, [" ", "  # !x, &y\n   "], AROUND, STYLED):
         for words in ([tag], ["&a-1_", tag], [tag, "&a-1_"]):
             data = around.format(gap.join([*words, style])).encode()
-            values = [value for value in parse_nodes(data).values if value.tag]
+            values = [value for value in parse_nodes(data).nodes if value.tag]
             if values:
                 check_begin(data, values[0], words[-1], style)
                 read.update([tag, around, style])
@@ -447,7 +444,7 @@ def check_begin(data: bytes, value: Node, word: str, style: str) -> None:
         assert value.scalar_start == value.end and data[: value.scalar_start].endswith(word.encode()), (data, value)
         return
     assert value.scalar_start == data.index(style.encode()), (data, value)
-    after = parse_nodes(apply_replacements(data, put_plaintext(data, value, b"new\n"))).values
+    after = parse_nodes(apply_replacements(data, put_plaintext(data, value, b"new\n"))).nodes
     assert (value.path, value.tag, value.anchor, b"new\n") in [(n.path, n.tag, n.anchor, n.text) for n in after], data
 
 
@@ -461,21 +458,21 @@ def test_shown_texts(monkeypatch: pytest.MonkeyPatch, loader: type, around: byte
     """Whatever blanks and line ends a plaintext begins and ends with, what is shown in place of a block reads as it."""
     monkeypatch.setattr(yaml, "CSafeLoader", loader, raising=False)
     data = around % block("old", name="")
-    [value] = [each for each in parse_nodes(data).values if each.is_envelope]
+    [value] = [each for each in parse_nodes(data).nodes if each.is_envelope]
     for length in range(5):
         for text in map(str.encode, map("".join, product(SIGNS, repeat=length))):
             after = parse_nodes(apply_replacements(data, put_plaintext(data, value, text)))
-            found = [each.text for each in after.values if each.path == value.path]
+            found = [each.text for each in after.nodes if each.path == value.path]
             assert (after.fault, found) == ("", [text]), "what is read"
 
 
 def test_text_beside_anchor() -> None:
     """A colon ends an anchor, and may begin a text."""
-    assert [(node.anchor, node.scalar_start, node.text) for node in parse_nodes(b"&a:b").values] == [("a", 2, b":b")]
+    assert [(node.anchor, node.scalar_start, node.text) for node in parse_nodes(b"&a:b").nodes] == [("a", 2, b":b")]
 
 
 def test_unknown_block() -> None:
     """Where the header of a block is not found, the value stays as it is, with a reason."""
-    value = parse_nodes(b"|\n x\n").values[0]
+    value = parse_nodes(b"|\n x\n").nodes[0]
     with pytest.raises(Refused, match="the `|` of its block cannot be found"):
         put_plaintext(b" |\n x\n", value, b"new")

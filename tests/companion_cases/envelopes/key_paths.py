@@ -47,8 +47,8 @@ def test_steps(path: KeyPath) -> None:
 def test_nodes(document: Json) -> None:
     """Each node is found at the path that is written for it, and no other one is."""
     parsed = parse_nodes(json.dumps(document).encode())
-    for node in parsed.values:
-        wanted = [other for other in parsed.values if other.path == node.path] if node.path else []
+    for node in parsed.nodes:
+        wanted = [other for other in parsed.nodes if other.path == node.path] if node.path else []
         assert parsed.list_values_at(node.typed_path) == wanted, node
 
 

@@ -12,7 +12,7 @@ from ansible_vault_companions.editing.typed_tags import check_typed_tags
 from ansible_vault_companions.envelopes import conflicts, header
 from ansible_vault_companions.envelopes.detection import may_have_envelope
 from ansible_vault_companions.envelopes.node import Node
-from ansible_vault_companions.envelopes.parsed_text import ParsedText, parse_envelopes, parse_nodes
+from ansible_vault_companions.envelopes.parsed_text import ParsedYaml, parse_envelopes, parse_nodes
 from ansible_vault_companions.passwords.labels import ANY
 from ansible_vault_companions.passwords.password import Password
 from ansible_vault_companions.passwords.sources import parse_vault_id
@@ -47,7 +47,7 @@ WORKS: dict[str, Callable[[bytes], object]] = {
     "a line with a margin": lambda data: parse_envelopes(b"#" * len(data) + data),
     "a file without an envelope": may_have_envelope,
     "a whole vault": lambda data: header.is_whole_envelope(b"$ANSIBLE_VAULT;1.1;AES256\n" + data),
-    "typed tags": lambda data: check_typed_tags(data, ParsedText(data)),
+    "typed tags": lambda data: check_typed_tags(data, ParsedYaml(data)),
     "conflict markers": lambda data: (conflicts.is_unmerged(data), conflicts.split_sides(b"<<<<<<<\n" + data)),
 }
 
@@ -78,7 +78,7 @@ def test_many_changes(place: str) -> None:
     def prepare(count: int) -> Callable[[], object]:
         def list_values(text: str) -> list[Node]:
             lines = (f"{place.format(number)}!vault {text} {number}\n" for number in range(count))
-            return [value for value in parse_nodes("".join(lines).encode()).values if value.is_tagged]
+            return [value for value in parse_nodes("".join(lines).encode()).nodes if value.is_tagged]
 
         opened = [
             DecryptedValue(value, Decryption(b"", password, value.text, ANY), b"", 0) for value in list_values("old")
