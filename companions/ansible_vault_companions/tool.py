@@ -52,7 +52,7 @@ PYTHON_SCRIPT = re.compile(rb"#! *(.*python.*)\n|#!/bin/sh\n'''exec' [\"']?(.*?)
 LONGEST_START = 4_096
 
 
-class Key:
+class Credential:
     """What encrypts: a password, and the label that the envelope gets."""
 
     def __init__(self, password: Password, label: str) -> None:
@@ -60,7 +60,7 @@ class Key:
         self.label = label
 
     def __eq__(self, other: object) -> bool:
-        return isinstance(other, Key) and (self.password, self.label) == (other.password, other.label)
+        return isinstance(other, Credential) and (self.password, self.label) == (other.password, other.label)
 
     def __hash__(self) -> int:
         return hash((self.password, self.label))
@@ -73,26 +73,26 @@ class NotDecrypted(Refused):
 class Decryption:
     """An envelope, the password that decrypts it, and the plaintext."""
 
-    def __init__(self, envelope: bytes, password: Password, text: bytes, policy: Policy) -> None:
+    def __init__(self, envelope: bytes, password: Password, plaintext: bytes, policy: Policy) -> None:
         self.envelope = envelope
         self.password = password
-        self.text = text
+        self.plaintext = plaintext
         # What its label means.
         self.policy = policy
 
     @property
-    def key(self) -> Key:
-        return Key(self.password, read_label(self.envelope) or "")
+    def credential(self) -> Credential:
+        return Credential(self.password, read_label(self.envelope) or "")
 
     def require_label(self, where: str = "") -> None:
         """Refuses a text that its label does not allow to encrypt again with this password."""
-        require_label(self.password, self.key.label, self.policy, where)
+        require_label(self.password, self.credential.label, self.policy, where)
 
-    def require_key(self, where: str = "") -> Key:
-        """The key for another text in its place. Refuses one that may not encrypt that."""
+    def require_credential(self, where: str = "") -> Credential:
+        """The credential for another text in its place. Refuses one that may not encrypt that."""
         self.require_label(where)
         require_named(self.password, self.policy, where)
-        return self.key
+        return self.credential
 
 
 def _name_damage(envelope: bytes, fault: Refused) -> Refused:
@@ -193,15 +193,16 @@ class Tool:
         except Refused as fault:
             raise _name_damage(envelope, fault) from None
 
-    def encrypt(self, plaintext: bytes, key: Key) -> bytes:
-        """The plaintext, encrypted and labeled with a key."""
-        return self.run(["encrypt", key.password.make_option(label=key.label)], plaintext, [key.password], key.label)
+    def encrypt(self, plaintext: bytes, credential: Credential) -> bytes:
+        """The plaintext, encrypted and labeled with a credential."""
+        password, label = credential.password, credential.label
+        return self.run(["encrypt", password.make_option(label=label)], plaintext, [password], label)
 
-    def encrypt_again(self, envelope: bytes, plaintext: bytes, key: Key) -> bytes:
+    def encrypt_again(self, envelope: bytes, plaintext: bytes, credential: Credential) -> bytes:
         """Encrypts the plaintext to replace an envelope. Identical envelopes get the same replacement, so that copies
         stay copies. Different envelopes with the same plaintext get different ones."""
         size = len(envelope) + len(plaintext)
-        return self.remember((envelope, plaintext, key), size, lambda: self.encrypt(plaintext, key))
+        return self.remember((envelope, plaintext, credential), size, lambda: self.encrypt(plaintext, credential))
 
     def remember(self, what: Hashable, size: int, call: Callable[[], bytes]) -> bytes:
         """The result of a call, or that of an equal one before it, if there was room to remember it."""

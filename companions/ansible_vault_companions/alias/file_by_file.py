@@ -72,7 +72,7 @@ class Files:
         if call.args.command == ENCRYPT:
             return encrypt(*call.passwords)
         if call.args.command != REKEY:
-            return tool.decrypt(data, call.passwords, call.policy).text
+            return tool.decrypt(data, call.passwords, call.policy).plaintext
         password, envelope = tool.try_passwords(data, call.passwords, call.policy, encrypt)
         require_label(password, read_label(data) or "", call.policy)
         return envelope

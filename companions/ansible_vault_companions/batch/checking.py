@@ -75,9 +75,9 @@ class Check(Work):
             report.add_envelope(DECRYPTED, place, f"decrypted by {escape(result.password.source.text)}")
         except Refused as fault:
             report.add_envelope(FAILED, place, str(fault))
-        if conflicts.is_unmerged(result.text):
+        if conflicts.is_unmerged(result.plaintext):
             report.add_envelope(FAILED, place, f"its plaintext {conflicts.UNMERGED}")
-        self.change_plaintext(parse_envelopes(result.text), place, report)
+        self.change_plaintext(parse_envelopes(result.plaintext), place, report)
 
 
 def summarize(total: Total, is_list: bool, has_labels: bool) -> str:

@@ -23,7 +23,7 @@ from ansible_vault_companions.batch.textconv_passwords import textconv_lacks
 from ansible_vault_companions.passwords.password import Password
 from ansible_vault_companions.quoting import escape
 from ansible_vault_companions.refusals import Refused
-from ansible_vault_companions.tool import DAMAGED, Decryption, Key, NotDecrypted
+from ansible_vault_companions.tool import DAMAGED, Credential, Decryption, NotDecrypted
 
 NOT_IN_GIT = "git diff in this clone lacks the new password: give it to ansible-vault-hook --install, too"
 # A placeholder for the new envelope in a dry run.
@@ -103,15 +103,15 @@ class Rotation(Work):
             report.labels.add(self.new_for_any.label)
         else:
             result.require_label()
-        after = self._within(result.text, place, report)
-        key = Key(new, new.label) if new else result.key
-        keeps = (result.password.content, result.key.label) == (key.password.content, key.label)
+        after = self._within(result.plaintext, place, report)
+        credential = Credential(new, new.label) if new else result.credential
+        keeps = (result.password.content, result.credential.label) == (credential.password.content, credential.label)
         if new:
             done = TO_BE_ROTATED if self.is_dry else ROTATED
             report.add_envelope(KEPT if keeps else done, place)
-        if keeps and after == result.text:
+        if keeps and after == result.plaintext:
             return None
-        return DRY if self.is_dry else self.tool.encrypt_again(result.envelope, after, key)
+        return DRY if self.is_dry else self.tool.encrypt_again(result.envelope, after, credential)
 
     def _within(self, plaintext: bytes, place: Place, report: Report) -> bytes:
         """The plaintext of an envelope, with the envelopes in it rotated."""

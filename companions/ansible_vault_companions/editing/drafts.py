@@ -22,7 +22,7 @@ from ansible_vault_companions.passwords.labels import Policy
 from ansible_vault_companions.passwords.password import Password
 from ansible_vault_companions.quoting import escape
 from ansible_vault_companions.refusals import Refused
-from ansible_vault_companions.tool import Key, Tool
+from ansible_vault_companions.tool import Credential, Tool
 
 NOTHING_TO_EDIT = (
     "it is not a vault, and no value in it has the tag `!vault`; encrypt it with `ansible-vault-with encrypt`, or "
@@ -48,8 +48,8 @@ class Draft(Protocol):
         """The text to change."""
 
     @property
-    def key(self) -> Key | None:
-        """The key of the whole text, which may read a copy; None if it has several passwords, or may have."""
+    def credential(self) -> Credential | None:
+        """The credential of the whole text, which may read a copy; None if it has several passwords, or may have."""
 
     def is_as_it_was(self, text: bytes) -> bool:
         """Whether the file may stay if this is saved."""
@@ -64,37 +64,37 @@ class VaultDraft:
 
     target: str
     content: bytes | None
-    key: Key
+    credential: Credential
     plaintext: bytes = b""
 
     def is_as_it_was(self, text: bytes) -> bool:
         return text == self.plaintext
 
     def encrypt(self, tool: Tool, text: bytes) -> Saved:
-        vault = tool.encrypt(text, self.key)
+        vault = tool.encrypt(text, self.credential)
         if self.content is None:
-            return Saved(vault, [ENCRYPTED.format("the new vault", escape(self.key.label))])
+            return Saved(vault, [ENCRYPTED.format("the new vault", escape(self.credential.label))])
         return Saved(vault.replace(b"\n", b"\r\n") if b"\r\n" in self.content else vault, [])
 
 
 class ConflictDraft:
     """A file with two vaults between markers. Their texts are merged, and what is saved becomes one vault."""
 
-    def __init__(self, target: str, content: bytes, vaults: VaultMerge, key: Key) -> None:
+    def __init__(self, target: str, content: bytes, vaults: VaultMerge, credential: Credential) -> None:
         self.target = target
         self.content = content
         self.vaults = vaults
-        self.key = key
+        self.credential = credential
         self.plaintext = vaults.merged_lines.text
 
     def is_as_it_was(self, text: bytes) -> bool:
         return text == self.plaintext and self.vaults.merged_lines.conflicts > 0
 
     def encrypt(self, tool: Tool, text: bytes) -> Saved:
-        of_sides = conflicts.count_markers(self.vaults.ours.text) | conflicts.count_markers(self.vaults.theirs.text)
-        if conflicts.count_markers(text) - of_sides:
+        ours, theirs = (conflicts.count_markers(side.plaintext) for side in (self.vaults.ours, self.vaults.theirs))
+        if conflicts.count_markers(text) - (ours | theirs):
             raise Refused(conflicts.STILL)
-        return Saved(self.vaults.encrypt(tool, text, self.key), [])
+        return Saved(self.vaults.encrypt(tool, text, self.credential), [])
 
 
 class Loader:
@@ -111,7 +111,7 @@ class Loader:
         refuse_pointer(content or b"")
         if content is None:
             link_bounds.require_folder(target)
-            return VaultDraft(target, None, self.choice.choose_key("the new vault", "the vault"))
+            return VaultDraft(target, None, self.choice.choose_credential("the new vault", "the vault"))
         if conflicts.is_unmerged(content):
             versions = find_versions(target, content)
             if not versions:
@@ -119,16 +119,16 @@ class Loader:
             return self._load_conflict(target, content, versions)
         if content.startswith(MAGIC):
             decrypted = self.decrypt(content)
-            return VaultDraft(target, content, decrypted.require_key(), decrypted.text)
+            return VaultDraft(target, content, decrypted.require_credential(), decrypted.plaintext)
         return self._load_values(target, content)
 
     def _load_conflict(self, target: str, content: bytes, versions: Versions) -> Draft:
         if all(versions.are_vaults):
             vaults = VaultMerge(self.decrypt, versions)
-            chosen = self.choice.find_key() if self.choice.chosen is not None else None
-            key = vaults.choose_key(chosen)
-            key.password.confirm()
-            return ConflictDraft(target, content, vaults, key)
+            chosen = self.choice.find_credential() if self.choice.chosen is not None else None
+            credential = vaults.choose_credential(chosen)
+            credential.password.confirm()
+            return ConflictDraft(target, content, vaults, credential)
         if any(versions.are_vaults):
             raise Refused(ONE_SIDE.format(make_pathspec(target)))
         ours, theirs = YamlText(versions.ours, self.decrypt), YamlText(versions.theirs, self.decrypt)
@@ -155,12 +155,12 @@ class Loader:
         if not draft.tagged:
             raise Refused(NOTHING_TO_EDIT)
         for old in draft.opened:
-            old.decrypted.require_key(f"{describe_place(old.value)}: ")
+            old.decrypted.require_credential(f"{describe_place(old.value)}: ")
         if len(draft.faults) == len(draft.tagged) and draft.choice.label is None:
             value, why = draft.faults[0]
             raise Refused(f"{describe_place(value)}: {why}{TO_ADD}")
-        keys = draft.choice.list_new_keys()
-        if len(keys) == 1:
+        credentials = draft.choice.list_new_credentials()
+        if len(credentials) == 1:
             # Before somebody types a text for it.
-            keys[0].password.confirm()
+            credentials[0].password.confirm()
         return draft

@@ -16,7 +16,7 @@ from ansible_vault_companions.passwords.labels import choose_to_encrypt, describ
 from ansible_vault_companions.passwords.password import Password
 from ansible_vault_companions.quoting import escape
 from ansible_vault_companions.refusals import Refused
-from ansible_vault_companions.tool import Key
+from ansible_vault_companions.tool import Credential
 
 GETS = "new values get the label {}; --encrypt-vault-id chooses another"
 IS_ASKED = "the label of a new value will be asked for; --encrypt-vault-id chooses one"
@@ -32,8 +32,8 @@ class Choice(NamedTuple):
     # The label that the user has chosen for this run, and the one of the settings. That is for what is new alone.
     chosen: str | None = None
     usual: str | None = None
-    # The key of the file's values, if they all have one; and whether the file has a conflict.
-    key_of_values: Key | None = None
+    # The credential of the file's values, if they all have one; and whether the file has a conflict.
+    credential_of_values: Credential | None = None
     in_conflict: bool = False
 
     @property
@@ -46,53 +46,53 @@ class Choice(NamedTuple):
         """Those for something new if no label is chosen."""
         return prefer_options(self.passwords)
 
-    def find_key(self, where: str = "") -> Key | None:
-        """The key of something new; None if there are several passwords and nobody has chosen one. Refuses a chosen one
-        that cannot be used."""
-        of_values = self.key_of_values
+    def find_credential(self, where: str = "") -> Credential | None:
+        """The credential of something new; None if there are several passwords and nobody has chosen one. Refuses a
+        chosen one that cannot be used."""
+        of_values = self.credential_of_values
         contents = {password.content for password in self.candidates}
         if self.label is None and of_values and of_values.password.content in contents:
             return of_values
         if self.label is None and len(self.candidates) > 1:
             return None
         password = choose_to_encrypt(self.passwords, self.label, where)
-        return Key(password, password.label)
+        return Credential(password, password.label)
 
-    def list_new_keys(self) -> list[Key]:
-        """The keys that something new may get; none if the chosen one cannot be used."""
+    def list_new_credentials(self) -> list[Credential]:
+        """The credentials that something new may get; none if the chosen one cannot be used."""
         with suppress(Refused):
-            key = self.find_key()
-            return [key] if key else [Key(password, password.label) for password in self.candidates]
+            only = self.find_credential()
+            return [only] if only else [Credential(password, password.label) for password in self.candidates]
         return []
 
-    def choose_key(self, name: str, place: str) -> Key:
-        """The key for what has this name and place."""
-        key = self.find_key(f"{place} is new, and ") or self._ask(name, place)
-        key.password.confirm()
-        return key
+    def choose_credential(self, name: str, place: str) -> Credential:
+        """The credential for what has this name and place."""
+        credential = self.find_credential(f"{place} is new, and ") or self._ask(name, place)
+        credential.password.confirm()
+        return credential
 
-    def settle_key(self, name: str, place: str) -> Key:
-        """The key for what may be one of several texts with several passwords. In a conflict, the chosen label is also
-        for that."""
+    def settle_credential(self, name: str, place: str) -> Credential:
+        """The credential for what may be one of several texts with several passwords. In a conflict, the chosen label
+        is also for that."""
         if not self.in_conflict:
             raise Refused(UNCLEAR.format(place))
         if self.chosen is None:
             raise Refused(SIDES_DIFFER.format(place))
-        return self.choose_key(name, place)
+        return self.choose_credential(name, place)
 
-    def _ask(self, name: str, place: str) -> Key:
-        """The key with the label that the user chooses at a terminal."""
+    def _ask(self, name: str, place: str) -> Credential:
+        """The credential with the label that the user chooses at a terminal."""
         labels = [*dict.fromkeys(password.label for password in self.candidates)]
         if len(labels) == 1 or not os.isatty(0):
             has = describe_labels(self.candidates)
             raise Refused(f"{place} is new; of the labels {has}, choose one with --encrypt-vault-id")
         label = prompts.ask_choice(f"Label to encrypt {name} with", labels)
-        return Key(choose_to_encrypt(self.candidates, label), label)
+        return Credential(choose_to_encrypt(self.candidates, label), label)
 
     def describe(self) -> str:
         """What a new value gets."""
         try:
-            key = self.find_key()
+            credential = self.find_credential()
         except Refused as fault:
             return IS_REFUSED.format(fault)
-        return GETS.format(escape(key.label)) if key else IS_ASKED
+        return GETS.format(escape(credential.label)) if credential else IS_ASKED

@@ -13,7 +13,7 @@ from ansible_vault_companions.editing.encrypting_password import Choice
 from ansible_vault_companions.envelopes.key_paths import KeyPath
 from ansible_vault_companions.envelopes.node import Node
 from ansible_vault_companions.quoting import escape
-from ansible_vault_companions.tool import Decryption, Key
+from ansible_vault_companions.tool import Credential, Decryption
 
 Item = TypeVar("Item")
 
@@ -28,14 +28,14 @@ class DecryptedValue(NamedTuple):
 
     @property
     def text(self) -> bytes:
-        return self.decrypted.text
+        return self.decrypted.plaintext
 
 
 class Match(NamedTuple):
-    """The value whose envelope a typed one keeps, or else the key that encrypts it."""
+    """The value whose envelope a typed one keeps, or else the credential that encrypts it."""
 
     kept: DecryptedValue | None
-    key: Key | None = None
+    credential: Credential | None = None
 
 
 def describe_name(value: Node) -> str:
@@ -48,7 +48,7 @@ def describe_place(value: Node) -> str:
 
 
 def find_matches(opened: list[DecryptedValue], typed: list[Node], choice: Choice) -> list[Match]:
-    """What each typed value was before, or its key, in order."""
+    """What each typed value was before, or its credential, in order."""
     kept = _keep({}, opened, typed, lambda value: value.path)
     # An item of a list may be at the place of another. So what has left its list was replaced, if its place was taken.
     kept = _keep(kept, opened, typed, lambda value: _list_of(value.path))
@@ -61,14 +61,14 @@ def find_matches(opened: list[DecryptedValue], typed: list[Node], choice: Choice
         if number in kept:
             matches.append(Match(kept[number]))
             continue
-        keys = replacements.list_keys(value, choice)
+        credentials = replacements.list_credentials(value, choice)
         names = describe_name(value), describe_place(value)
         # A text that is gone may have moved here. It was not kept, so those that had it have several passwords.
-        if len(keys) > 1 or value.text in texts_gone:
-            key = choice.settle_key(*names)
+        if len(credentials) > 1 or value.text in texts_gone:
+            credential = choice.settle_credential(*names)
         else:
-            key = keys.pop() if keys else choice.choose_key(*names)
-        matches.append(Match(None, key))
+            credential = credentials.pop() if credentials else choice.choose_credential(*names)
+        matches.append(Match(None, credential))
     return matches
 
 
@@ -79,7 +79,7 @@ def _keep(
     group: Callable[[Node], KeyPath],
 ) -> dict[int, DecryptedValue]:
     """What the typed values keep, by their numbers, with more: they have the text of one that is gone from the same
-    group. If they have moved, all that have it there must have the same key."""
+    group. If they have moved, all that have it there must have the same credential."""
     sources: dict[tuple[KeyPath, bytes], list[DecryptedValue]] = defaultdict(list)
     for old in _list_gone(opened, kept):
         sources[group(old.value), old.text].append(old)
@@ -88,7 +88,7 @@ def _keep(
         same = sources[group(value), value.text]
         if number in kept or not same:
             continue
-        if same[0].value.path == value.path or len({old.decrypted.key for old in same}) == 1:
+        if same[0].value.path == value.path or len({old.decrypted.credential for old in same}) == 1:
             more[number] = same.pop(0)
     return {**kept, **more}
 
@@ -103,23 +103,23 @@ class _Replacements:
     """The values that are gone from their places, and those that are unknown there, all together: there may be many."""
 
     def __init__(self, opened: list[DecryptedValue], replaced: list[DecryptedValue], unknown: list[Node]) -> None:
-        # The keys of what was replaced at each path, and of all values of each list.
-        self.at_path = _group((old.value.path, old.decrypted.key) for old in replaced)
-        self.in_list = _group((_list_of(old.value.path), old.decrypted.key) for old in opened)
+        # The credentials of what was replaced at each path, and of all values of each list.
+        self.at_path = _group((old.value.path, old.decrypted.credential) for old in replaced)
+        self.in_list = _group((_list_of(old.value.path), old.decrypted.credential) for old in opened)
         # The paths of both in each list, and the lists in which these differ.
         self.before = _group((_list_of(old.value.path), old.value.path) for old in replaced)
         self.after = _group((_list_of(value.path), value.path) for value in unknown)
         self.changed = {group for group in self.before if self.before[group] != self.after[group]}
 
-    def list_keys(self, value: Node, choice: Choice) -> set[Key]:
-        """The keys that a new text may get for what it replaces; none if it replaces nothing. If items of its list have
-        come or gone, it may replace any item; if there are more than before, it may also be new."""
+    def list_credentials(self, value: Node, choice: Choice) -> set[Credential]:
+        """The credentials that a new text may get for what it replaces; none if it replaces nothing. If items of its
+        list have come or gone, it may replace any item; if there are more than before, it may also be new."""
         group = _list_of(value.path)
         if group in self.changed:
             is_longer = len(self.after[group]) > len(self.before[group])
-            keys = {*self.in_list[group], *(choice.list_new_keys() if is_longer else ())}
-            if len({key.password.content for key in keys}) > 1:
-                return keys
+            credentials = {*self.in_list[group], *(choice.list_new_credentials() if is_longer else ())}
+            if len({credential.password.content for credential in credentials}) > 1:
+                return credentials
         return {*self.at_path[value.path]}
 
 

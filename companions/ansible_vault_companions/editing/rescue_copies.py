@@ -16,7 +16,7 @@ from ansible_vault_companions.envelopes.header import read_label
 from ansible_vault_companions.files import reading, replacing
 from ansible_vault_companions.quoting import escape
 from ansible_vault_companions.refusals import Refused
-from ansible_vault_companions.tool import Decrypt, Key, Tool
+from ansible_vault_companions.tool import Credential, Decrypt, Tool
 
 # Precedes the text of a copy, so that no text begins like a vault, which ansible-vault would not encrypt. The digest is
 # that of the text that the edit began with.
@@ -79,19 +79,19 @@ def require_copy(target: str) -> str:
     return copy
 
 
-def read_copy(path: str, base: bytes, key: Key | None, decrypt: Decrypt) -> Copy:
+def read_copy(path: str, base: bytes, credential: Credential | None, decrypt: Decrypt) -> Copy:
     """The copy at a path. Refuses one if the file's text or label has changed since; its password may have."""
     content = reading.read_existing(path)
-    text = decrypt(content).text
-    if key is None or key.label != read_label(content) or not text.startswith(_make_head(base)):
+    text = decrypt(content).plaintext
+    if credential is None or credential.label != read_label(content) or not text.startswith(_make_head(base)):
         raise Refused(OUTDATED.format(escape(path)))
     return Copy(path, content, text[len(_make_head(base)) :])
 
 
-def save_copy(tool: Tool, key: Key, target: str, base: bytes, text: bytes, old: Copy | None) -> str:
+def save_copy(tool: Tool, credential: Credential, target: str, base: bytes, text: bytes, old: Copy | None) -> str:
     """Writes the copy of a text, in place of the one that the edit has resumed, and returns its path. The edit began
     with `base`."""
-    envelope = tool.encrypt(_make_head(base) + text, key)
+    envelope = tool.encrypt(_make_head(base) + text, credential)
     folder = find_folder()
     path = _find_path(folder, target)
     try:

@@ -112,9 +112,9 @@ class Edit:
         is possible, why."""
         draft = self.draft
         try:
-            if draft.key is None:
+            if draft.credential is None:
                 raise Refused(SEVERAL)
-            copy = save_copy(self.tool, draft.key, draft.target, draft.plaintext, text, self.resumed)
+            copy = save_copy(self.tool, draft.credential, draft.target, draft.plaintext, text, self.resumed)
         except Exception as failed:
             return Refused(f"{why}; {NO_COPY}: {describe_failure(failed, self.path)}")
         rescued = RESCUED.format(why, escape(copy))

@@ -48,15 +48,15 @@ def set_value(target: str, path: str, tool: Tool, decrypt: Decrypt, choice: Choi
     # The old text, if the password that opens it is to encrypt the new one.
     before: bytes | None = None
     if is_chosen:
-        key = choice.choose_key(escape(path), escape(path))
+        credential = choice.choose_credential(escape(path), escape(path))
     else:
         decrypted = decrypt(value.require_readable())
         # If the password has another label than the value, the new text may be for other readers.
-        key, before = decrypted.require_key(), decrypted.text
+        credential, before = decrypted.require_credential(), decrypted.plaintext
     replacing.check_replaceable(target)
     text = _read_input()
     if text != before:
-        replacing.replace(target, _put(parsed, value, path, tool.encrypt(text, key)), content)
+        replacing.replace(target, _put(parsed, value, path, tool.encrypt(text, credential)), content)
 
 
 def _require_encryptable(value: Node, path: str, is_chosen: bool) -> None:

@@ -29,7 +29,7 @@ from ansible_vault_companions.envelopes.parsed_text import ParsedYaml, require_n
 from ansible_vault_companions.parallel import work_at_once
 from ansible_vault_companions.quoting import escape
 from ansible_vault_companions.refusals import Refused
-from ansible_vault_companions.tool import Decrypt, Key, Tool
+from ansible_vault_companions.tool import Credential, Decrypt, Tool
 
 NOT_A_STRING = "is a list, a mapping or a key, not a string; put quotes around a text"
 NOTHING_TYPED = 'is missing after `!vault`; write `""` for an empty one'
@@ -86,17 +86,17 @@ class YamlDraft:
         self.opened = sorted((old for side in sides for old in side.opened), key=lambda old: old.scalar in base)
         self.faults = [fault for side in sides for fault in side.faults]
         labels = {value.label for value in self.tagged if value.is_envelope}
-        keys = {old.decrypted.key for old in self.opened}
-        of_values = keys.pop() if len(keys) == len(labels) == 1 else None
-        self.choice = choice._replace(key_of_values=of_values, in_conflict=len(sides) > 1)
+        credentials = {old.decrypted.credential for old in self.opened}
+        of_values = credentials.pop() if len(credentials) == len(labels) == 1 else None
+        self.choice = choice._replace(credential_of_values=of_values, in_conflict=len(sides) > 1)
 
     @property
-    def key(self) -> Key | None:
-        """The key of the whole text, with new values; None if they have several passwords, or may have."""
-        new = self.choice.list_new_keys()
-        keys = [*(old.decrypted.key for old in self.opened), *new]
-        is_single = new and len({key.password.content for key in keys}) == 1
-        return keys[0] if is_single else None
+    def credential(self) -> Credential | None:
+        """The credential of the whole text, with new values; None if they have several passwords, or may have."""
+        new = self.choice.list_new_credentials()
+        credentials = [*(old.decrypted.credential for old in self.opened), *new]
+        is_single = new and len({credential.password.content for credential in credentials}) == 1
+        return credentials[0] if is_single else None
 
     def is_as_it_was(self, text: bytes) -> bool:
         is_done = len(self.sides) == 1 and all(value.is_envelope for value in self.tagged)
@@ -131,8 +131,8 @@ class YamlDraft:
 def _describe_encrypted(typed: list[Node], matches: list[Match]) -> Iterator[str]:
     """Names the values that have been encrypted, with the label of each."""
     for value, match in zip(typed, matches):
-        if match.key:
-            yield ENCRYPTED.format(_describe_path(value), escape(match.key.label))
+        if match.credential:
+            yield ENCRYPTED.format(_describe_path(value), escape(match.credential.label))
 
 
 def _describe_path(value: Node) -> str:
@@ -145,12 +145,12 @@ def _try_to_open(data: bytes, value: Node, decrypt: Decrypt) -> DecryptedValue |
         return None
     try:
         decrypted = decrypt(value.require_readable())
-        decrypted.text.decode()
+        decrypted.plaintext.decode()
     except UnicodeDecodeError:
         return Refused(NOT_UTF_8)
     except Refused as fault:
         return fault
-    if decrypted.text.strip().startswith(MAGIC):
+    if decrypted.plaintext.strip().startswith(MAGIC):
         return Refused("its plaintext is itself a vault")
     return DecryptedValue(value, decrypted, data[value.scalar_start : value.end], find_column(data, value.scalar_start))
 
@@ -167,8 +167,8 @@ def _seal(tool: Tool, value: Node, match: Match) -> bytes:
     """The envelope of a typed value: the one that it had, or a new one."""
     if match.kept:
         return match.kept.value.text
-    assert match.key
-    return tool.encrypt(value.text, match.key)
+    assert match.credential
+    return tool.encrypt(value.text, match.credential)
 
 
 def _write(data: bytes, value: Node, match: Match, envelope: bytes) -> list[Replacement]:

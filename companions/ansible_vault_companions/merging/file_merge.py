@@ -14,7 +14,7 @@ from ansible_vault_companions.merging.line_merge import MOST_CONFLICTS, OneSideO
 from ansible_vault_companions.merging.value_merge import ValueMerge
 from ansible_vault_companions.merging.vault_merge import VaultMerge
 from ansible_vault_companions.refusals import Refused
-from ansible_vault_companions.tool import Decrypt, Key, Tool
+from ansible_vault_companions.tool import Credential, Decrypt, Tool
 
 NOT_MERGED = "not merged, so both sides are whole in the file: {}"
 # What to do with a conflict in the file that this pathspec names.
@@ -30,9 +30,9 @@ class MergedFile(NamedTuple):
     advice: str = RESOLVE
 
 
-def merge_file(tool: Tool, decrypt: Decrypt, versions: Versions, chosen: Key | None) -> MergedFile:
-    """The merged file, with markers around what could not be merged. The chosen key counts only if it is unclear which
-    password a text gets."""
+def merge_file(tool: Tool, decrypt: Decrypt, versions: Versions, chosen: Credential | None) -> MergedFile:
+    """The merged file, with markers around what could not be merged. The chosen credential counts only if it is unclear
+    which password a text gets."""
     ours, base, theirs = versions
     # git itself does so first, but not where it reuses a resolution, with a conflict as base and ours.
     if base in (ours, theirs) or ours == theirs:
@@ -50,15 +50,15 @@ def merge_file(tool: Tool, decrypt: Decrypt, versions: Versions, chosen: Key | N
         return MergedFile(conflicts.join_sides(ours, theirs), NOT_MERGED.format(fault), advice)
 
 
-def _merge_vaults(tool: Tool, decrypt: Decrypt, versions: Versions, chosen: Key | None) -> bytes:
+def _merge_vaults(tool: Tool, decrypt: Decrypt, versions: Versions, chosen: Credential | None) -> bytes:
     vaults = VaultMerge(decrypt, versions)
-    key = vaults.choose_key(chosen)
+    credential = vaults.choose_credential(chosen)
     if vaults.merged_lines.conflicts:
         raise Refused(vaults.why)
-    return vaults.encrypt(tool, vaults.merged_lines.text, key)
+    return vaults.encrypt(tool, vaults.merged_lines.text, credential)
 
 
-def _merge_values(tool: Tool, decrypt: Decrypt, versions: Versions, chosen: Key | None) -> MergedFile:
+def _merge_values(tool: Tool, decrypt: Decrypt, versions: Versions, chosen: Credential | None) -> MergedFile:
     if versions.base.startswith(MAGIC) or conflicts.is_unmerged(versions.base):
         # A base that was a vault has no lines for a conflict. One that is a conflict, as in a crossed history, is none.
         versions = versions._replace(base=b"")

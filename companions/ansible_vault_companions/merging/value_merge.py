@@ -1,7 +1,8 @@
 """Merges three versions of a file with envelopes that is no vault.
 
 A token stands for each envelope while git merges the lines. It is the same for values that mean the same and are laid
-out alike. One that a password decrypts means its text under the key that it has in the result. Any other means itself.
+out alike. One that a password decrypts means its text under the credential that it has in the result. Any other means
+itself.
 """
 
 from __future__ import annotations
@@ -27,10 +28,10 @@ from ansible_vault_companions.merging.line_merge import (
     Versions,
     merge_lines,
 )
-from ansible_vault_companions.merging.result_key import choose_value_key
+from ansible_vault_companions.merging.result_credential import choose_value_credential
 from ansible_vault_companions.parallel import work_at_once
 from ansible_vault_companions.refusals import Refused
-from ansible_vault_companions.tool import Decrypt, Decryption, Key, Tool
+from ansible_vault_companions.tool import Credential, Decrypt, Decryption, Tool
 
 MERGED_NOT_YAML = "git can merge its lines, but then {}"
 HAS_MARKERS = "it has lines that look like git's conflict markers"
@@ -48,7 +49,7 @@ class Use(NamedTuple):
 class ValueMerge:
     """Three versions of a file, and what their envelopes mean."""
 
-    def __init__(self, decrypt: Decrypt, versions: Versions, chosen: Key | None) -> None:
+    def __init__(self, decrypt: Decrypt, versions: Versions, chosen: Credential | None) -> None:
         self.parsed = {side: parse_envelopes(data) for side, data in zip(SIDES, versions)}
         self.values = {side: _list_values(parsed) for side, parsed in self.parsed.items()}
         texts = [{value.text for value in values} for values in self.values.values()]
@@ -56,7 +57,7 @@ class ValueMerge:
         differing = sorted(set[bytes]().union(*texts).difference(set.intersection(*texts)))
         results = work_at_once(partial(_try_to_decrypt, decrypt), differing)
         self.decrypted = {each.envelope: each for each in results if each}
-        self.keys = self._choose_keys(chosen)
+        self.credentials = self._choose_credentials(chosen)
         self.mark = b"ansible-vault-%s" % os.urandom(12).hex().encode()
         self.numbers: dict[Hashable, int] = {}
         # The values of each side with a token, in order, until all but the last are used.
@@ -78,19 +79,21 @@ class ValueMerge:
         self._check(content, count > 0)
         return MergedLines(content, count)
 
-    def _choose_keys(self, chosen: Key | None) -> dict[str, Key | None]:
-        """The key of the result for the values with each label; None if each keeps its own."""
-        keys: dict[str, dict[str | None, set[Key | None]]] = {side: defaultdict(set) for side in SIDES}
+    def _choose_credentials(self, chosen: Credential | None) -> dict[str, Credential | None]:
+        """The credential of the result for the values with each label; None if each keeps its own."""
+        credentials: dict[str, dict[str | None, set[Credential | None]]] = {side: defaultdict(set) for side in SIDES}
         for side, values in self.values.items():
             for value in values:
                 found = self.decrypted.get(value.text)
-                keys[side][value.label].add(found.key if found else None)
-        labels = {each.key.label for each in self.decrypted.values()}
-        ours, base, theirs = (keys[side] for side in SIDES)
-        return {label: choose_value_key(label, ours[label], base[label], theirs[label], chosen) for label in labels}
+                credentials[side][value.label].add(found.credential if found else None)
+        labels = {each.credential.label for each in self.decrypted.values()}
+        ours, base, theirs = (credentials[side] for side in SIDES)
+        return {
+            label: choose_value_credential(label, ours[label], base[label], theirs[label], chosen) for label in labels
+        }
 
-    def _find_key(self, found: Decryption) -> Key:
-        return self.keys[found.key.label] or found.key
+    def _find_credential(self, found: Decryption) -> Credential:
+        return self.credentials[found.credential.label] or found.credential
 
     def _shadow(self, side: str) -> bytes:
         """The data of a side, with tokens in place of its envelopes."""
@@ -100,7 +103,7 @@ class ValueMerge:
     def _make_token(self, side: str, data: bytes, value: Node) -> Replacement:
         begin = value.envelope_start if value.style == STRAY else value.scalar_start
         found = self.decrypted.get(value.text)
-        meaning = (self._find_key(found), found.text) if found else value.text
+        meaning = (self._find_credential(found), found.plaintext) if found else value.text
         identity = (meaning, value.style, data[begin : value.envelope_start], value.margin, value.ending)
         number = self.numbers.setdefault(identity, len(self.numbers))
         self.uses[side, number].append(Use(value, data[begin : value.end]))
@@ -125,27 +128,27 @@ class ValueMerge:
         candidates = [uses[0] for uses in order if uses]
         for uses in order:
             del uses[: len(uses) > 1]
-        # Outside of a conflict, the one under the key of the result counts.
-        use = next((use for use in candidates if side or self._has_key(use)), None)
+        # Outside of a conflict, the one under the credential of the result counts.
+        use = next((use for use in candidates if side or self._has_credential(use)), None)
         if use:
             self.envelopes.append(use.value.text)
             return use.scalar
         return candidates[0]
 
     def _encrypt(self, tool: Tool, use: Use) -> bytes:
-        """The bytes of a value under the key of the result. Copies stay copies, and other envelopes with the same text
-        differ."""
+        """The bytes of a value under the credential of the result. Copies stay copies, and other envelopes with the
+        same text differ."""
         value, scalar = use
         found = self.decrypted[value.text]
-        envelope = tool.encrypt_again(value.text, found.text, self._find_key(found))
+        envelope = tool.encrypt_again(value.text, found.plaintext, self._find_credential(found))
         self.envelopes.append(envelope)
         head = scalar[: value.envelope_start - (value.envelope_start if value.style == STRAY else value.scalar_start)]
         return head + replace_envelope(value, envelope).text
 
-    def _has_key(self, use: Use) -> bool:
-        """Whether a value is under the key of the result."""
+    def _has_credential(self, use: Use) -> bool:
+        """Whether a value is under the credential of the result."""
         found = self.decrypted.get(use.value.text)
-        return found is None or found.key == self._find_key(found)
+        return found is None or found.credential == self._find_credential(found)
 
     def _check(self, content: bytes, has_conflict: bool) -> None:
         """Refuses a result that is no YAML though both sides are, or that has other envelopes than these."""

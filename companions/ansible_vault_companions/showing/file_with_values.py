@@ -74,7 +74,7 @@ def _show_values(name: str, parsed: ParsedText, path: str, decrypt: Decrypt) -> 
 def _try_to_show(data: bytes, decrypt: Decrypt, value: Node) -> list[Replacement] | Refused:
     """The changes that show a value, or why it stays encrypted."""
     try:
-        return put_plaintext(data, value, decrypt(value.require_readable()).text)
+        return put_plaintext(data, value, decrypt(value.require_readable()).plaintext)
     except Refused as fault:
         return fault
 
@@ -84,9 +84,10 @@ def show_value(data: bytes, key_path: str, decrypt: Decrypt) -> bytes:
     refuse_pointer(data)
     is_vault = data.startswith(MAGIC)
     # The names in a vault's plaintext are secret.
-    value = require_nodes(decrypt(data).text if is_vault else data).find_value_at(key_path, names_others=not is_vault)
+    text = decrypt(data).plaintext if is_vault else data
+    value = require_nodes(text).find_value_at(key_path, names_others=not is_vault)
     if value.is_envelope:
-        return decrypt(value.require_readable()).text
+        return decrypt(value.require_readable()).plaintext
     if not is_vault:
         raise Refused(VALUE_NOT_ENCRYPTED.format(escape(key_path)))
     if value.style in (NO_SCALAR, ALIAS):

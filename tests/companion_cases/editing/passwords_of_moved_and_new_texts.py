@@ -15,7 +15,7 @@ from ansible_vault_companions.editing.encrypting_password import Choice
 from ansible_vault_companions.passwords.password import Password
 from ansible_vault_companions.passwords.sources import parse_vault_id
 from ansible_vault_companions.refusals import Refused
-from ansible_vault_companions.tool import Decryption, Key
+from ansible_vault_companions.tool import Credential, Decryption
 from companion_cases import EDIT, Done, Place, block, check_answer, edit, ended, sealed, silent, texts
 from companion_cases.editing.random_yaml import POLICY, Hexadecimal, envelope, make_draft
 
@@ -35,7 +35,7 @@ class Value(NamedTuple):
 
 
 class Labeled(Hexadecimal):
-    def encrypt(self, plaintext: bytes, key: Key) -> bytes:
+    def encrypt(self, plaintext: bytes, key: Credential) -> bytes:
         return seal(Value(key.label, plaintext.decode()))
 
 

@@ -21,7 +21,7 @@ from ansible_vault_companions.passwords.labels import Policy
 from ansible_vault_companions.passwords.password import Password
 from ansible_vault_companions.passwords.sources import make_path_source
 from ansible_vault_companions.refusals import Refused
-from ansible_vault_companions.tool import Decrypt, Decryption, Key, Tool
+from ansible_vault_companions.tool import Credential, Decrypt, Decryption, Tool
 from companion_cases.envelopes.found_and_replaced_envelopes import LOADERS, Generator, composed
 
 SECRET = Password(make_path_source(""), b"", -1)
@@ -49,7 +49,7 @@ class Hexadecimal(Tool):
     def __init__(self) -> None:
         pass
 
-    def encrypt(self, plaintext: bytes, key: Key) -> bytes:
+    def encrypt(self, plaintext: bytes, key: Credential) -> bytes:
         return envelope(plaintext)
 
 
@@ -103,7 +103,7 @@ def tagged(data: bytes) -> list[tuple[KeyPath, str]] | None:
 def shown_text(envelope: str) -> str:
     """Return the plaintext of an envelope if an edit can show it, since it is not folded."""
     try:
-        text = decrypt(envelope.encode()).text.decode()
+        text = decrypt(envelope.encode()).plaintext.decode()
     except Refused:
         return envelope
     return envelope if text.startswith("$ANSIBLE_VAULT") or re.search(" [0-9a-f]{16}", envelope) else text

@@ -23,7 +23,7 @@ from ansible_vault_companions.merging.line_merge import Versions
 from ansible_vault_companions.passwords.labels import Policy
 from ansible_vault_companions.passwords.password import Password
 from ansible_vault_companions.passwords.sources import parse_vault_id
-from ansible_vault_companions.tool import REMEMBERED_BYTES, Decryption, Key, NotDecrypted, Tool
+from ansible_vault_companions.tool import REMEMBERED_BYTES, Credential, Decryption, NotDecrypted, Tool
 from companion_cases import PASSWORDS, decrypted
 from companion_cases.repository import SALTS, by_git, repository
 from lib.needs import needs, needs_pyyaml
@@ -142,7 +142,7 @@ class Model(Tool):
         self.salts = itertools.cycle(range(len(SALTS)))
         # The new values, by their envelopes, and how many there are of each text and key.
         self.made: dict[bytes, Value] = {}
-        self.counts: Counter[tuple[bytes, Key]] = Counter()
+        self.counts: Counter[tuple[bytes, Credential]] = Counter()
         # As in the program's own.
         self.lock, self.results, self.room = threading.Lock(), {}, REMEMBERED_BYTES
 
@@ -155,7 +155,7 @@ class Model(Tool):
     def opened(self, envelope: bytes) -> Decryption:
         return self.decrypt(envelope, [*SECRETS.values()], POLICY)
 
-    def encrypt(self, plaintext: bytes, key: Key) -> bytes:
+    def encrypt(self, plaintext: bytes, key: Credential) -> bytes:
         label = "" if key.label == "default" else key.label
         value = Value("", plaintext, label, key.password.source.place, next(self.salts), 0)
         self.made[value.envelope()] = value
