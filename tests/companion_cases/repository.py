@@ -9,7 +9,7 @@ from ansible_vault_companions.git.attributes import read_attributes
 from ansible_vault_companions.git.changes import list_staged
 from ansible_vault_companions.git.contents import Contents
 from ansible_vault_companions.guard.evidence import Evidence, Known
-from ansible_vault_companions.guard.rules import find_faults
+from ansible_vault_companions.guard.rules import check_files
 from companion_cases import HOOK, MERGE, Done, Place
 from model.vaults import SALT, serialized
 
@@ -70,14 +70,14 @@ def make_envelope(number: int) -> bytes:
     return serialized(salt, tag, ciphertext)
 
 
-def find_staged_faults() -> set[str]:
+def find_refused_files() -> set[str]:
     """Return what is staged here and refused, as the hook does, but without a process of its own."""
     staged = list_staged()
     attributes, _ = read_attributes({file.name for changes in staged for file in changes.files}, "")
     with Contents() as contents:
         known = Known(contents)
-        found = [find_faults(Evidence(changes, known, attributes)) for changes in staged]
-        return {file.name.decode() for faults in found for file, _ in faults}
+        refused = [check_files(Evidence(changes, known, attributes)) for changes in staged]
+        return {file.name.decode() for findings in refused for file, _ in findings}
 
 
 def told(done: Done) -> list[str]:

@@ -10,7 +10,7 @@ from collections import defaultdict
 from typing import Callable, Iterable, NamedTuple, TypeVar
 
 from ansible_vault_companions.editing.encrypting_password import Choice
-from ansible_vault_companions.envelopes.key_paths import KeyPath
+from ansible_vault_companions.envelopes.key_paths import ANY_ITEM, KeyPath
 from ansible_vault_companions.envelopes.node import Node
 from ansible_vault_companions.quoting import escape
 from ansible_vault_companions.tool import Credential, Decryption
@@ -132,4 +132,4 @@ def _group(pairs: Iterable[tuple[KeyPath, Item]]) -> dict[KeyPath, set[Item]]:
 
 def _list_of(path: KeyPath) -> KeyPath:
     """The path without the numbers of items."""
-    return tuple(-1 if isinstance(step, int) else step for step in path)
+    return tuple(ANY_ITEM if isinstance(step, int) else step for step in path)

@@ -8,7 +8,7 @@ import os
 from ansible_vault_companions.envelopes.header import measure_padded
 from ansible_vault_companions.files.leftovers import is_leftover
 from ansible_vault_companions.git.changes import File, split_path
-from ansible_vault_companions.guard.evidence import Evidence, Fault, list_names
+from ansible_vault_companions.guard.evidence import Evidence, Finding, list_names
 from ansible_vault_companions.quoting import escape
 
 LEFTOVER = "is a temporary file of a companion that was killed, and may be plaintext"
@@ -21,9 +21,9 @@ EXAMPLES = frozenset([b".example", b".sample", b".template", b".dist", TEMPLATE]
 EXPRESSION = b"{{"
 
 
-def find_fault(evidence: Evidence, file: File) -> Fault | None:
+def check_file(evidence: Evidence, file: File) -> Finding | None:
     if is_leftover(os.path.basename(os.fsdecode(file.name))):
-        return Fault(LEFTOVER, REMEDY)
+        return Finding(LEFTOVER, REMEDY)
     if file not in evidence.new_plaintexts:
         return None
     content = evidence.known.contents.read(file.blob)
@@ -35,20 +35,20 @@ def find_fault(evidence: Evidence, file: File) -> Fault | None:
     if not vault and suffix not in EXAMPLES:
         vault = evidence.find_vault_near(file, length)
     if vault and not evidence.known.find_whole(file.blob).is_empty:
-        return Fault(COPY.format(escape(os.fsdecode(vault.name))), REMEDY)
+        return Finding(COPY.format(escape(os.fsdecode(vault.name))), REMEDY)
     return None
 
 
 def _find_removed(evidence: Evidence, file: File, length: int) -> File | None:
     """A vault that is gone from the place of a file."""
-    places = _list_former_places(file.name)
+    paths = _list_former_paths(file.name)
     for vault in evidence.removed_vaults:
-        if evidence.known.measure(vault.blob) == length and not places.isdisjoint(_list_former_places(vault.name)):
+        if evidence.known.measure(vault.blob) == length and not paths.isdisjoint(_list_former_paths(vault.name)):
             return vault
     return None
 
 
-def _list_former_places(path: bytes) -> set[bytes]:
+def _list_former_paths(path: bytes) -> set[bytes]:
     """The directory, the path without a suffix, and the name alone. Two files have one of these in common if a vault
     `x.yml` becomes `y.yml`, `x/main.yml` or `other/x.yaml`."""
     folder, name = split_path(path.lower())

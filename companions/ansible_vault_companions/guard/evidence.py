@@ -12,17 +12,17 @@ from ansible_vault_companions.envelopes.header import measure_ciphertext
 from ansible_vault_companions.git.attributes import Attributes
 from ansible_vault_companions.git.changes import Changes, File, list_tree, split_path
 from ansible_vault_companions.git.contents import Contents
-from ansible_vault_companions.guard.comparison import compare, find_variable
+from ansible_vault_companions.guard.comparison import compare_texts, find_variable
 from ansible_vault_companions.guard.facts import Facts, find_facts
-from ansible_vault_companions.guard.list_items import Keys
+from ansible_vault_companions.guard.list_items import Place
 
 # The directory with a name of a file and, unless files in many places have it, the name alone.
-Place = tuple[bytes, bytes]
+Address = tuple[bytes, bytes]
 ANYWHERE = b"/"
 COMMON = (b"main", b"vault")
 
 
-class Fault(NamedTuple):
+class Finding(NamedTuple):
     """Why a file is refused, and what to do about that."""
 
     why: str
@@ -92,15 +92,15 @@ class Evidence:
         return is_prose(os.fsdecode(file.name)) and not self.is_marked(file)
 
     @cached_property
-    def removed_values(self) -> Counter[Keys]:
+    def removed_values(self) -> Counter[Place]:
         """How many values fewer there are at each place in all files together."""
-        before, now = Counter[Keys](), Counter[Keys]()
+        before, now = Counter[Place](), Counter[Place]()
         for file in self.files if self.is_single else ():
             after = self.known.find(file.blob)
             if not (after.is_vault or self.is_example(file)):
-                old, new = compare(self.known.find(file.before), after)
-                before.update(map(find_variable, old.encrypted.elements()))
-                now.update(map(find_variable, new.encrypted.elements()))
+                counts_before, counts_now = compare_texts(self.known.find(file.before), after)
+                before.update(map(find_variable, counts_before.encrypted.elements()))
+                now.update(map(find_variable, counts_now.encrypted.elements()))
         return before - now
 
     @cached_property
@@ -121,22 +121,23 @@ class Evidence:
         return {file for file in new if not (facts[file].is_vault or facts[file].is_empty)}
 
     @cached_property
-    def _vaults(self) -> dict[Place, dict[int, File]]:
-        """The vaults that are or were beside new files, or have their names, by place and by the length of the text."""
-        vaults: dict[Place, dict[int, File]] = {}
-        for file in self.new_plaintexts:
-            vaults.update((place, {}) for place in _list_places(file.name))
-        parts = {name if folder == ANYWHERE else folder for folder, name in vaults}
+    def _vaults_near(self) -> dict[tuple[Address, int], File]:
+        """The vaults that are or were beside new files, or have their names, by address and by the length of the text.
+        Beside a new db/pw.txt, a vault db/pw.yml of 20 bytes is found by ((b"db", b"pw"), 32)."""
+        addresses = {address for file in self.new_plaintexts for address in _list_addresses(file.name)}
+        parts = {name if folder == ANYWHERE else folder for folder, name in addresses}
         changed = [file for file in self.files if file.blob]
-        for file in (*list_tree(self.changes.parent, parts), *changed) if vaults else ():
-            for place in vaults.keys() & _list_places(file.name):
-                vaults[place][self.known.measure(file.blob)] = file
-        return vaults
+        files = (*list_tree(self.changes.parent, parts), *changed) if addresses else ()
+        return {
+            (address, self.known.measure(file.blob)): file
+            for file in files
+            for address in addresses & _list_addresses(file.name)
+        }
 
     def find_vault_near(self, file: File, length: int) -> File | None:
         """A vault beside a new file, or with its name, whose text has this length."""
-        found = (self._vaults[place].get(length) for place in _list_places(file.name))
-        return next(filter(None, found), None)
+        vaults = (self._vaults_near.get((address, length)) for address in _list_addresses(file.name))
+        return next(filter(None, vaults), None)
 
 
 def list_names(name: bytes) -> set[bytes]:
@@ -145,7 +146,7 @@ def list_names(name: bytes) -> set[bytes]:
     return {name, os.path.splitext(name)[0]}
 
 
-def _list_places(path: bytes) -> set[Place]:
+def _list_addresses(path: bytes) -> set[Address]:
     folder, name = split_path(path)
-    places = {(folder, each) for each in list_names(name)}
-    return places if name.partition(b".")[0] in COMMON else {*places, (ANYWHERE, name)}
+    addresses = {(folder, each) for each in list_names(name)}
+    return addresses if name.partition(b".")[0] in COMMON else {*addresses, (ANYWHERE, name)}

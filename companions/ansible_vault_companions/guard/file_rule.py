@@ -7,7 +7,7 @@ import os
 from ansible_vault_companions.envelopes.damage import NOT_ENCRYPTED
 from ansible_vault_companions.envelopes.file_kinds import is_yaml
 from ansible_vault_companions.git.changes import File
-from ansible_vault_companions.guard.evidence import Evidence, Fault, may_have_variables
+from ansible_vault_companions.guard.evidence import Evidence, Finding, may_have_variables
 
 WAS_VAULT = f"{NOT_ENCRYPTED}, but was a vault in {{}}"
 NAMED = f"{NOT_ENCRYPTED}, but has the name of a vault"
@@ -21,7 +21,7 @@ NAMES = (VAULT, b"vault.yml", b"vault.yaml")
 SUFFIX = b".vault.yml"
 
 
-def find_fault(evidence: Evidence, file: File) -> Fault | None:
+def check_file(evidence: Evidence, file: File) -> Finding | None:
     was_vault = evidence.known.find(file.before).is_vault
     is_marked = evidence.is_marked(file)
     if not (was_vault or is_marked or file in evidence.new_plaintexts and has_vault_name(file.name)):
@@ -30,8 +30,8 @@ def find_fault(evidence: Evidence, file: File) -> Fault | None:
     if not now.unencrypted or now.is_empty and is_yaml(os.fsdecode(file.name)):
         return None
     if was_vault:
-        return Fault(WAS_VAULT.format(evidence.since), REMEDY)
-    return Fault(now.unencrypted if is_marked else NAMED, REMEDY)
+        return Finding(WAS_VAULT.format(evidence.since), REMEDY)
+    return Finding(now.unencrypted if is_marked else NAMED, REMEDY)
 
 
 def has_vault_name(path: bytes) -> bool:

@@ -1,26 +1,35 @@
 """Which item of a list is which, before a commit and after it.
 
 An item is known by the text of the first key that tells all items of its list apart, `name` before others, unless a
-value has this key. Without one, it is known by its place: an item that has not changed keeps it, whatever the order,
-and if as many are left as there were, so do these.
+value has this key. Without one, it is known by the number that it had before: an item that has not changed keeps it,
+whatever the order, and if as many are left as there were, so do these. With the values E1 to E3:
+
+    before  users: [{name: eva, pw: E1}, {name: ann, pw: x}]    tokens: [E2, x]
+    now     users: [{name: ann, pw: y}, {name: eva, pw: E3}]    tokens: [y, E2, x]
+
+E1 is at ("users", "eva", "pw"), where E3 is now. E2 stays at ("tokens", 0), and the text x at ("tokens", 1), but the
+new text y is at ("tokens", UNKNOWN_ITEM).
 """
 
 from __future__ import annotations
 
 from collections import defaultdict
-from typing import Mapping, NamedTuple, Sequence, Union
+from typing import Iterable, Mapping, NamedTuple, Sequence, Union
 
 from ansible_vault_companions.envelopes.key_paths import KeyPath
 
 
-class ItemName(str):
+class NameText(str):
     """The text that a list item is known by. It is equal to the same key of a mapping, but no message shows it."""
 
 
-# What a list item is known by, and the keys that lead to a text. In these, an item that is not known is None: any one.
-Name = Union[ItemName, int]
+# What a list item is known by: a text, or the number that it had before.
+ItemName = Union[NameText, int]
+# The keys and the items that lead to a text. Where an item is not known, it may be any item, or key.
+UNKNOWN_ITEM = None
+Place = tuple[Union[str, ItemName, None], ...]
+# What all items of a list may have: a key or, if they are lists themselves, an item with this number.
 Step = Union[str, int]
-Keys = tuple[Union[str, int, None], ...]
 NAME = "name"
 
 
@@ -32,67 +41,92 @@ class Text(NamedTuple):
     is_encrypted: bool
 
 
-# The texts of each item of a list, with their paths below it.
-Items = Mapping[int, Sequence[Text]]
+# The texts of each item by its number, with their paths below the item; and the names of items by their numbers.
+Items = Mapping[int, tuple[Text, ...]]
+Names = Mapping[int, ItemName]
 
 
-def make_keys(path: KeyPath, names: Mapping[KeyPath, Name]) -> Keys:
-    steps = enumerate(path, 1)
-    return tuple(names.get(path[:end]) if isinstance(step, int) else step for end, step in steps)
+class ItemList(NamedTuple):
+    path: KeyPath = ()
+    items: Items = {}
 
 
-def name_items(before: Sequence[Text], now: Sequence[Text]) -> tuple[dict[KeyPath, Name], dict[KeyPath, Name]]:
-    """The names of the items of all lists, by their paths before and now."""
-    secret = {text.path[-1] for text in (*before, *now) if text.is_encrypted and text.path}
-    sides = _list_items(before), _list_items(now)
-    names: tuple[dict[KeyPath, Name], dict[KeyPath, Name]] = ({}, {})
-    # The lists that are within items come after these.
-    for depth in sorted({len(path) for lists in sides for path in lists}):
-        old, new = (
-            {make_keys(path, known): path for path in lists if len(path) == depth} for lists, known in zip(sides, names)
-        )
-        for keys in {**old, **new}:
-            paths = old.get(keys), new.get(keys)
-            items = [lists[path] if path is not None else {} for lists, path in zip(sides, paths)]
-            for path, known, found in zip(paths, names, _name_both(items[0], items[1], secret)):
-                known.update({(*(path or ()), number): name for number, name in found.items()})
-    return names
+class Lists:
+    """All lists of a file, before a commit or after it, and the names of their items by the paths of these."""
+
+    def __init__(self, texts: Iterable[Text]) -> None:
+        self.all = _find_lists(texts)
+        self.names: dict[KeyPath, ItemName] = {}
+
+    def find_place(self, path: KeyPath) -> Place:
+        steps = enumerate(path, 1)
+        return tuple(self.names.get(path[:end], UNKNOWN_ITEM) if isinstance(step, int) else step for end, step in steps)
+
+    def find_by_place(self, depth: int) -> dict[Place, ItemList]:
+        """The lists with paths of this length."""
+        return {self.find_place(each.path): each for each in self.all if len(each.path) == depth}
+
+    def add_names(self, path: KeyPath, names: Names) -> None:
+        """Names the items of the list with this path."""
+        self.names.update({(*path, number): name for number, name in names.items()})
 
 
-def _list_items(texts: Sequence[Text]) -> Mapping[KeyPath, Items]:
-    lists: dict[KeyPath, dict[int, list[Text]]] = defaultdict(dict)
+def name_items(before: Sequence[Text], now: Sequence[Text]) -> tuple[Lists, Lists]:
+    """The lists before and now, whose items have the same names if they are the same."""
+    secret_steps = {text.path[-1] for text in (*before, *now) if text.is_encrypted and text.path}
+    lists_before, lists_now = Lists(before), Lists(now)
+    # The place of a list depends on the names of the items that it is in.
+    for depth in sorted({len(each.path) for each in (*lists_before.all, *lists_now.all)}):
+        for list_before, list_now in _pair_lists(lists_before, lists_now, depth):
+            names_before, names_now = _name_pair(list_before.items, list_now.items, secret_steps)
+            lists_before.add_names(list_before.path, names_before)
+            lists_now.add_names(list_now.path, names_now)
+    return lists_before, lists_now
+
+
+def _find_lists(texts: Iterable[Text]) -> list[ItemList]:
+    lists: dict[KeyPath, dict[int, list[Text]]] = defaultdict(lambda: defaultdict(list))
     for text in texts:
         for depth, step in enumerate(text.path):
             if isinstance(step, int):
-                item = lists[text.path[:depth]].setdefault(step, [])
-                item.append(text._replace(path=text.path[depth + 1 :]))
-    return lists
+                lists[text.path[:depth]][step].append(text._replace(path=text.path[depth + 1 :]))
+    return [ItemList(path, {number: (*item,) for number, item in items.items()}) for path, items in lists.items()]
 
 
-def _name_both(before: Items, now: Items, secret: set[Step]) -> tuple[Mapping[int, Name], Mapping[int, Name]]:
-    """The names of the items of a list; none if there is no list before or now, and no key tells the items apart."""
-    old, new = _name_by_keys(before, secret), _name_by_keys(now, secret)
-    for key in (*old, *new):
-        if (key in old or not before) and (key in new or not now):
-            return old.get(key, {}), new.get(key, {})
-    return ({number: number for number in before}, _match_places(before, now)) if before and now else ({}, {})
+def _pair_lists(before: Lists, now: Lists, depth: int) -> list[tuple[ItemList, ItemList]]:
+    """The lists with paths of this length, those at the same place together. One without another has an empty one."""
+    at_before, at_now = before.find_by_place(depth), now.find_by_place(depth)
+    return [(at_before.get(place, ItemList()), at_now.get(place, ItemList())) for place in {**at_before, **at_now}]
 
 
-def _name_by_keys(items: Items, secret: set[Step]) -> Mapping[Step, Mapping[int, Name]]:
-    """The names of the items by each key that tells them apart."""
-    found: dict[Step, dict[int, Name]] = {NAME: {}}
+def _name_pair(before: Items, now: Items, secret_steps: set[Step]) -> tuple[Names, Names]:
+    """The names of the items of a list; none if there is no list before or now, and no step tells the items apart."""
+    by_step_before, by_step_now = _name_by_steps(before, secret_steps), _name_by_steps(now, secret_steps)
+    for step in (*by_step_before, *by_step_now):
+        if (step in by_step_before or not before) and (step in by_step_now or not now):
+            return by_step_before.get(step, {}), by_step_now.get(step, {})
+    return ({number: number for number in before}, _match_numbers(before, now)) if before and now else ({}, {})
+
+
+def _name_by_steps(items: Items, secret_steps: set[Step]) -> Mapping[Step, Names]:
+    """The names of the items by each step that tells them apart."""
+    by_step: dict[Step, dict[int, ItemName]] = {NAME: {}}
     for number, texts in items.items():
         for text in texts:
             if len(text.path) == 1 and not text.is_encrypted:
-                found.setdefault(text.path[0], {})[number] = ItemName(text.text.decode(errors="replace"))
-    return {key: names for key, names in found.items() if key not in secret and len({*names.values()}) == len(items)}
+                by_step.setdefault(text.path[0], {})[number] = NameText(text.text.decode(errors="replace"))
+    return {
+        step: names
+        for step, names in by_step.items()
+        if step not in secret_steps and len({*names.values()}) == len(items)
+    }
 
 
-def _match_places(before: Items, now: Items) -> Mapping[int, Name]:
-    """The place that each item had before, as far as it is known."""
-    places = {(*item,): place for place, item in before.items()}
-    same: dict[int, Name] = {number: places[(*item,)] for number, item in now.items() if (*item,) in places}
-    kept = {*same.values()}
-    left = [place for place in before if place not in kept]
-    others = [number for number in now if number not in same]
-    return {**same, **dict(zip(others, left))} if len(left) == len(others) else same
+def _match_numbers(before: Items, now: Items) -> Names:
+    """The number that each item had before, as far as it is known."""
+    numbers = {texts: number for number, texts in before.items()}
+    unchanged: dict[int, ItemName] = {number: numbers[texts] for number, texts in now.items() if texts in numbers}
+    kept = {*unchanged.values()}
+    gone = [number for number in before if number not in kept]
+    new = [number for number in now if number not in unchanged]
+    return {**unchanged, **dict(zip(new, gone))} if len(gone) == len(new) else unchanged

@@ -9,8 +9,8 @@ from ansible_vault_companions.git.attributes import Attributes, make_line, read_
 from ansible_vault_companions.git.changes import DIGITS, Changes, File
 from ansible_vault_companions.git.contents import Contents
 from ansible_vault_companions.git.pathspecs import make_pathspec
-from ansible_vault_companions.guard.evidence import Evidence, Fault, Known
-from ansible_vault_companions.guard.rules import find_faults
+from ansible_vault_companions.guard.evidence import Evidence, Finding, Known
+from ansible_vault_companions.guard.rules import check_files
 from ansible_vault_companions.output import write_error
 from ansible_vault_companions.quoting import escape
 
@@ -19,7 +19,7 @@ IN_COMMIT = " in that commit, for example with `git rebase -i {}`"
 
 
 def review_staged(program: str, paths: list[str]) -> bool:
-    """Whether the staged changes have no fault, nor the files at or below these paths, which need not have changed."""
+    """Whether the staged changes have no finding, nor the files at or below these paths, changed or not."""
     named = [Changes(changes.list_named(paths))] if paths else []
     return _review(program, [*changes.list_staged(), *named])
 
@@ -46,13 +46,13 @@ def _review(program: str, all_changes: list[Changes]) -> bool:
     with Contents() as contents:
         known = Known(contents)
         for each in all_changes:
-            for file, fault in find_faults(Evidence(each, known, attributes[each.marks])):
+            for file, finding in check_files(Evidence(each, known, attributes[each.marks])):
                 content = file._replace(before="")
                 if content not in reported:
                     reported.add(content)
                     where = f"{each.commit[:DIGITS]}: " if each.commit else ""
-                    write_error(f"{program}: {where}{escape(os.fsdecode(file.name))} {fault.why}")
-                    write_error(f"  {_write_advice(file, fault, each)}")
+                    write_error(f"{program}: {where}{escape(os.fsdecode(file.name))} {finding.why}")
+                    write_error(f"  {_write_advice(file, finding, each)}")
     return not reported
 
 
@@ -69,7 +69,7 @@ def _read_attributes(program: str, all_changes: list[Changes]) -> dict[str, dict
     return attributes
 
 
-def _write_advice(file: File, fault: Fault, of: Changes) -> str:
+def _write_advice(file: File, finding: Finding, of: Changes) -> str:
     path = make_pathspec(os.fsdecode(file.name), is_below_top=True)
-    remedy = fault.remedy.format(path=path) + (IN_COMMIT.format(of.base) if of.commit else "")
+    remedy = finding.remedy.format(path=path) + (IN_COMMIT.format(of.base) if of.commit else "")
     return f"{remedy}; {ALLOW.format(make_line(file.name))}"

@@ -1,7 +1,11 @@
 """A value that was encrypted is not in plaintext at its key: in its file, or in any file if it is gone from all.
 
 It is decrypted if there are fewer encrypted values at a place, and more plaintexts. A list item that is not known may
-be at any place.
+be at any place:
+
+    before  tokens: [E1, x]        a value at ("tokens", 0), and a text at ("tokens", 1)
+    now     tokens: [abc, y, z]    three texts at ("tokens", UNKNOWN_ITEM): E1 is decrypted
+    now     tokens: [E2, y, z]     two texts and a value there: E2 may be at ("tokens", 0), so none is decrypted
 """
 
 from __future__ import annotations
@@ -10,9 +14,9 @@ from collections import Counter
 from typing import Iterator
 
 from ansible_vault_companions.git.changes import File
-from ansible_vault_companions.guard.comparison import Counts, compare, find_variable
-from ansible_vault_companions.guard.evidence import Evidence, Fault, may_have_variables
-from ansible_vault_companions.guard.list_items import ItemName, Keys
+from ansible_vault_companions.guard.comparison import Counts, compare_texts, find_variable
+from ansible_vault_companions.guard.evidence import Evidence, Finding, may_have_variables
+from ansible_vault_companions.guard.list_items import UNKNOWN_ITEM, NameText, Place
 from ansible_vault_companions.quoting import escape
 
 NOW_PLAIN = "has {} in plaintext, which {} encrypted in {}"
@@ -21,56 +25,57 @@ REMEDY = "encrypt the value, for example with ansible-vault-edit"
 REPAIR = "encrypt and repair it"
 
 
-def find_fault(evidence: Evidence, file: File) -> Fault | None:
+def check_file(evidence: Evidence, file: File) -> Finding | None:
     before = evidence.known.find(file.before)
     # What had envelopes may be neither YAML nor have any now.
     now = evidence.known.find_whole(file.blob) if before.envelopes else evidence.known.find(file.blob)
     if now.is_vault or now.is_empty or evidence.is_example(file):
         return None
     if (before.fault or now.fault) and before.envelopes > now.envelopes:
-        return Fault(FEWER.format(evidence.since, before.fault or now.fault), REPAIR)
+        return Finding(FEWER.format(evidence.since, before.fault or now.fault), REPAIR)
     if not before.has_value and not (evidence.removed_values and may_have_variables(file.name)):
         return None
-    counts = compare(evidence.known.find_whole(file.before), evidence.known.find_whole(file.blob))
-    names = {*_find_in_file(*counts), *_find_elsewhere(evidence.removed_values, *counts)}
-    if not names:
+    counts = compare_texts(evidence.known.find_whole(file.before), evidence.known.find_whole(file.blob))
+    places = {*_find_in_file(*counts), *_find_elsewhere(evidence.removed_values, *counts)}
+    if not places:
         return None
-    listed = ", ".join(sorted(escape(_write_keys(keys)) for keys in names))
-    return Fault(NOW_PLAIN.format(listed, "was" if len(names) == 1 else "were", evidence.since), REMEDY)
+    listed = ", ".join(sorted(escape(_write_place(place)) for place in places))
+    return Finding(NOW_PLAIN.format(listed, "was" if len(places) == 1 else "were", evidence.since), REMEDY)
 
 
-def _find_in_file(before: Counts, now: Counts) -> Iterator[Keys]:
+def _find_in_file(before: Counts, now: Counts) -> Iterator[Place]:
     """The places of values of which there are fewer, with more plaintexts at, above or below them; and those of items
     that are all known, or of none, that have a plaintext, too."""
     fewer, more = before.encrypted - now.encrypted, now.plain - before.plain
-    for keys in before.encrypted if more else ():
-        if keys in more and None not in keys:
-            yield keys
-        elif keys in fewer and any(_may_be_same(keys, other) for other in more):
-            is_less_encrypted = _count(keys, before.encrypted) > _count(keys, now.encrypted)
-            if is_less_encrypted and _count(keys, before.plain) < _count(keys, now.plain):
-                yield keys
+    for place in before.encrypted if more else ():
+        if place in more and UNKNOWN_ITEM not in place:
+            yield place
+        elif place in fewer and any(_may_be_same(place, other) for other in more):
+            is_less_encrypted = _count_at(place, before.encrypted) > _count_at(place, now.encrypted)
+            if is_less_encrypted and _count_at(place, before.plain) < _count_at(place, now.plain):
+                yield place
 
 
-def _count(keys: Keys, texts: Counter[Keys]) -> int:
+def _count_at(place: Place, counts: Counter[Place]) -> int:
     """How many texts are at, above or below a place."""
-    return sum(texts[other] for other in texts if _may_be_same(keys, other))
+    return sum(count for other, count in counts.items() if _may_be_same(place, other))
 
 
-def _find_elsewhere(removed: Counter[Keys], before: Counts, now: Counts) -> Iterator[Keys]:
+def _find_elsewhere(removed: Counter[Place], before: Counts, now: Counts) -> Iterator[Place]:
     """The places of values that are gone from all files, with more plaintexts at or below them here. Files have nothing
     in common but names, so a place needs one."""
-    variables = (find_variable(keys) for keys in now.plain - before.plain)
-    places = {keys[:end] for keys in variables for end in range(1, len(keys) + 1)}
-    return (keys for keys in removed if keys in places and any(isinstance(key, str) for key in keys))
+    variables = (find_variable(place) for place in now.plain - before.plain)
+    more = {variable[:end] for variable in variables for end in range(1, len(variable) + 1)}
+    return (place for place in removed if place in more and any(isinstance(step, str) for step in place))
 
 
-def _may_be_same(keys: Keys, others: Keys) -> bool:
+def _may_be_same(place: Place, other: Place) -> bool:
     """Whether two places are the same, or one is in the other."""
-    return all(key == other or key is None or other is None for key, other in zip(keys, others))
+    steps = zip(place, other)
+    return all(a == b or a is UNKNOWN_ITEM or b is UNKNOWN_ITEM for a, b in steps)
 
 
-def _write_keys(keys: Keys) -> str:
-    """Keys as users type them: `users[].password`."""
-    steps = (key if isinstance(key, str) and not isinstance(key, ItemName) else "[]" for key in keys)
+def _write_place(place: Place) -> str:
+    """A place as users type it: `users[].password`."""
+    steps = (step if isinstance(step, str) and not isinstance(step, NameText) else "[]" for step in place)
     return ".".join(steps).replace(".[]", "[]") or "."

@@ -12,7 +12,7 @@ from companion_cases.hook.around_vaults import EXPRESSIONS, NOISE, NOTE, OTHER_C
 from companion_cases.hook.around_vaults import vault
 from companion_cases.hook.daily_commits import DAILY
 from companion_cases.hook.vault_leaks import LEAKS
-from companion_cases.repository import find_staged_faults, stage_alone
+from companion_cases.repository import find_refused_files, stage_alone
 from model.vaults import serialized
 
 # Files that stay.
@@ -32,7 +32,7 @@ def list_refused(folder: Path, before: Files, after: Files) -> set[str]:
     subprocess.run(["git", "commit", "-qm", "before", "--allow-empty", "--no-verify"], check=True)
     kept = {name: content for name, content in HEAD.items() if name not in before}
     stage_alone(folder, kept | after)
-    return find_staged_faults()
+    return find_refused_files()
 
 
 # Each is as long as the vault's text, by chance.

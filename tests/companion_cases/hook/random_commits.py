@@ -11,7 +11,7 @@ from hypothesis import given, settings
 from hypothesis import strategies as st
 
 from companion_cases import lines_of
-from companion_cases.repository import find_staged_faults, make_envelope, stage_alone
+from companion_cases.repository import find_refused_files, make_envelope, stage_alone
 
 # The number of an envelope, or a plaintext, by the name of the file and the keys. A vault has no keys.
 Steps = tuple[str, ...]
@@ -152,7 +152,7 @@ LEAKS = {"value": (2, 3), "above": (3,), "elsewhere": (2, 3), "vault": (1,), "va
 def find_refused(folder: Path, files: Contents) -> set[str]:
     """Stage these files alone, and return those that the hook refuses."""
     stage_alone(folder, {name: write_file(contents) for name, contents in below(files).items()})
-    return find_staged_faults()
+    return find_refused_files()
 
 
 def test_commits(own_repository: Path) -> None:

@@ -13,7 +13,7 @@ from random import Random
 from hypothesis import given, settings
 from hypothesis import strategies as st
 
-from companion_cases.repository import find_staged_faults, make_envelope, stage_alone
+from companion_cases.repository import find_refused_files, make_envelope, stage_alone
 
 EXAMPLES, DOCUMENTS = 20, 40
 NAME_KEYS = ["name", "id", "user"]
@@ -228,7 +228,7 @@ def stage(folder: Path, authors: dict[str, Author]) -> None:
 def find_refused(folder: Path, authors: dict[str, Author]) -> set[str]:
     """Stage the documents, and return those that the hook refuses."""
     stage(folder, authors)
-    return find_staged_faults()
+    return find_refused_files()
 
 
 def test_documents(own_repository: Path) -> None:

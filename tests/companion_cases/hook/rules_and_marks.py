@@ -409,5 +409,5 @@ def test_no_longer_read(place: Place, name: str, text: bytes) -> None:
     """A file that has lost a value must still be readable, whatever its name."""
     under_git(place, "")
     committed(place, name, block("old", name="pw"))
-    [fault] = staged(place, {name: text})
-    assert fault.startswith(f"{name} has fewer envelopes than in HEAD, and its values cannot be compared: "), fault
+    [line] = staged(place, {name: text})
+    assert line.startswith(f"{name} has fewer envelopes than in HEAD, and its values cannot be compared: "), line
