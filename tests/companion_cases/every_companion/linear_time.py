@@ -13,6 +13,7 @@ from ansible_vault_companions.envelopes import conflicts, header
 from ansible_vault_companions.envelopes.detection import may_have_envelope
 from ansible_vault_companions.envelopes.node import Node
 from ansible_vault_companions.envelopes.parsed_text import ParsedYaml, parse_envelopes, parse_nodes
+from ansible_vault_companions.guard.facts import is_placeholder
 from ansible_vault_companions.passwords.labels import ANY
 from ansible_vault_companions.passwords.password import Password
 from ansible_vault_companions.passwords.sources import parse_vault_id
@@ -36,7 +37,7 @@ PIECES = [
     b"$ANSIBLE_VAULT;1 6161616161616161 ",
     *[b"!vault | ", b"!vault &a ", b"!vault", b"# \\n", b" ", b"\t", b"\n", b"- ", b"61", b"<<<<<<< ", b"<<<<<<< a\n"],
     *[b"!", b"!%", b"%7", b"!a", b"\\u00"],
-    *[b"&a ", b",&", b", &a", b"%TAG ! !", b"  - ", b"\r", b"'"],
+    *[b"&a ", b",&", b", &a", b"%TAG ! !", b"  - ", b"\r", b"'", b"'a', "],
 ]
 SMALL, TIMES = 1 << 15, 8
 START = b"x: !vault |\n  $ANSIBLE_VAULT;1.1;AES256\n  61\n"
@@ -48,6 +49,7 @@ WORKS: dict[str, Callable[[bytes], object]] = {
     "a file without an envelope": may_have_envelope,
     "a whole vault": lambda data: header.is_whole_envelope(b"$ANSIBLE_VAULT;1.1;AES256\n" + data),
     "typed tags": lambda data: check_typed_tags(data, ParsedYaml(data)),
+    "text after an expression": lambda data: is_placeholder(b"{{ %b }} x" % data),
     "conflict markers": lambda data: (conflicts.is_unmerged(data), conflicts.split_sides(b"<<<<<<<\n" + data)),
 }
 

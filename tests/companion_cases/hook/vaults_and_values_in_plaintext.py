@@ -68,8 +68,13 @@ SHORT = sealed("old", b"short")
 DEEP = b"x: " + b"[" * 70 + b"]" * 70 + b"\n" + PW
 COPIES = {".gitattributes": b"*.dec -ansible-vault\n"}
 
+# An expression with many strings, and one whose string has a quote between braces.
+STRINGS = b"{{ [%b] | join(' ') }}" % b", ".join(b"'item%d'" % number for number in range(40))
+QUOTE = b"pw: >-\n  {{ '{{ it\\'s }}' | upper }}\n"
+
 PASSING = {
     "an expression on several lines": Change(PW, b"pw: >-\n  {{ lookup('env',\n  'PW') }}\n"),
+    "an expression with a quote in its string": Change(PW, QUOTE),
     "nothing": Change(PW + HIDDEN + DB, b"pw: ~\nvault_pw: Null\ndb: {pw: ''}\n"),
     "an empty file": Change({"a.yml": VAULT, "b.yml": PW}, {"a.yml": b"\n", "b.yml": b""}),
     "a removed item": Change(users(PW, PW2, PLAIN), users(PW2, PLAIN)),
@@ -164,6 +169,12 @@ REFUSED = {
     "another folder": Change({"one/a.yml": VAULT}, {"two/a.yml": TEXT}, f"two/a.yml {GONE.format('one/a.yml')}"),
     "fewer folders": Change({"x/y/a.yml": VAULT}, {"y/a.yml": TEXT}, f"y/a.yml {GONE.format('x/y/a.yml')}"),
     "another suffix of main": Change({"main.yml": VAULT}, {"main.json": TEXT}, f"main.json {WHOLE}"),
+    "another suffix, while a plain file of that stem goes": Change(
+        {"g/prod": VAULT, "g/prod.yaml": PLAIN}, {"g/prod.yml": TEXT}, f"g/prod.yml {WHOLE}"
+    ),
+    "another suffix, which was that of a plain file": Change(
+        {"x.json": VAULT, "x.yml": PLAIN}, {"x.yaml": TEXT}, f"x.yaml {WHOLE}"
+    ),
     "another directory, deeper": Change({"a/x.yml": VAULT}, {"b/c/x.yml": TEXT}, f"b/c/x.yml {GONE.format('a/x.yml')}"),
     "a copy": Change({"a.yml": VAULT}, {"a.yml": VAULT, "a.yml.dec": TEXT}, f"a.yml.dec {GONE.format('a.yml')}"),
     "beside another vault of its name that changes": Change(
@@ -230,6 +241,8 @@ REFUSED = {
         users(below(b"tokens", below(b"b", PLAIN))),
         IN_PART.format("users.a.tokens[].pw"),
     ),
+    "an expression with the tag": Change(X, X + b'b: !vault "{{ x }}"\n', TAGGED.format(2)),
+    "nothing with the tag": Change(X, X + b"b: !vault\n", TAGGED.format(2)),
     "plaintext with the tag": Change(PW, PW + b"x: !vault plain\n", TAGGED.format(8)),
     "a repaired file": Change(TAB + PW, PLAIN, f"{FEWER}{TOKEN}"),
     "a file that is still to be repaired": Change(
@@ -248,6 +261,7 @@ REFUSED = {
     ),
     "a text like two tags": Change(DB, b"db: {app: !<plain>, pw: !plain }\n", db),
     "a text like an anchor": Change(PW, b"pw: &plain\n", pw),
+    "text after an expression with many strings": Change(PW, b'pw: "%b --flag"\n' % STRINGS, pw),
     "text between expressions": Change(PW, b'pw: "{{ x }}:{{ y }}"\n', pw),
     "a statement of Jinja": Change(PW, b'pw: "{% set x = 1 %}"\n', pw),
     "a key twice": Change(PW, PW + PLAIN, pw),
