@@ -136,7 +136,7 @@ class Evidence:
 
     def find_vault_near(self, file: File, length: int) -> File | None:
         """A vault beside a new file, or with its name, whose text has this length."""
-        vaults = (self._vaults_near.get((address, length)) for address in _list_addresses(file.name))
+        vaults = (self._vaults_near.get((address, length)) for address in sorted(_list_addresses(file.name)))
         return next(filter(None, vaults), None)
 
 

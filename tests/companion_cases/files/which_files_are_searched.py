@@ -18,11 +18,12 @@ def found(place: Place, *paths: str) -> list[str]:
 
 
 def test_awkward_names(place: Place) -> None:
-    names = [*AWKWARD, os.fsdecode(b"not utf-8 \xff.yml")]
+    names = [*AWKWARD, "c1 \x9b31m.yml", os.fsdecode(b"not utf-8 \xff.yml")]
     for name in names:
         place.put(name, sealed("old"))
         place.put(f"folder {name}/vars", block("old"))
-    lines = ["'./a\\nline.yml': rotated\n", "./-rf.yml: rotated\n", summary(2 * len(names))]
+    lines = ["'./a\\nline.yml': rotated\n", "'./c1 \\x9b31m.yml': rotated\n", "./-rf.yml: rotated\n"]
+    lines.append(summary(2 * len(names)))
     ended("awkward names", place.run(ROTATE, *to_new(place), "."), 0, *lines)
     assert len(place.files()) == 2 * len(names), "nothing else is there"
     done = place.run(ROTATE, *place.by_file("new"), *place.by_file("old", "new-"), "--", *AWKWARD)

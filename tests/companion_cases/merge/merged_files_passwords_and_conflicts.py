@@ -10,7 +10,7 @@ from typing import NamedTuple
 import pytest
 
 from ansible_vault_companions.envelopes.conflicts import OURS_MARKER, THEIRS_MARKER, join_sides, split_sides
-from companion_cases import CONFLICT, FOUND, MERGE, PASSWORDS, Place, block, decrypted, described
+from companion_cases import CONFLICT, FOUND, MERGE, PASSWORDS, Done, Place, block, decrypted, described
 from companion_cases import ended, how_to_resolve, run_changed, sealed, silent, versions
 from companion_cases.merge.random_merges import Model, Value, common
 from companion_cases.repository import BASE, BOTH, OURS, SALTS, THEIRS, fork, repository, set_driver, under_git
@@ -139,11 +139,26 @@ def test_chosen_secret(place: Place) -> None:
 
 @pytest.mark.parametrize("is_theirs", [False, True], ids=["ours", "theirs"])
 def test_label_alone(place: Place, is_theirs: bool) -> None:
-    """A value that only gets a label on one side has it afterwards, under the same password."""
-    old, labeled = block("old", b"a", name="a"), block("old", b"a", "prod", name="a")
-    sides = [old, labeled] if is_theirs else [labeled, old]
-    silent("the merge", place.run(MERGE, *place.by_file("old"), *versions(place, "a.yml", old, *sides)))
-    assert place.get("a.yml") == labeled
+    """A value that only gets a label on one side has it afterwards, under the same password. If the other side changed
+    its text, there is a conflict."""
+    head = b"port: %d\nuser: a\nhost: b\n"
+    old, labeled, changed = (block("old", *words, name="a") for words in ((b"a",), (b"a", "prod"), (b"b",)))
+
+    def merge(other: bytes) -> Done:
+        sides = [other, head % 1 + labeled] if is_theirs else [head % 1 + labeled, other]
+        return place.run(MERGE, *place.by_file("old"), *versions(place, "a.yml", head % 1 + old, *sides))
+
+    silent("another line", merge(head % 2 + old))
+    assert place.get("a.yml") == head % 2 + labeled
+    ended("its text", merge(head % 1 + changed), CONFLICT, "1 conflict; ")
+
+
+def test_chosen_label(place: Place) -> None:
+    """A vault that another label's password decrypts is not merged, even if its own label is chosen."""
+    secrets = [*place.by_id("dev", "dev"), *place.by_id("prod", "prod"), "--encrypt-vault-id", "prod"]
+    vaults = [sealed("prod", BASE, "prod"), sealed("prod", OURS, "prod"), sealed("dev", THEIRS, "prod")]
+    done = place.run(MERGE, *secrets, *versions(place, "a.yml", *vaults))
+    ended("theirs", done, CONFLICT, "theirs: its label is prod, but dev@")
 
 
 FALSE_LABEL = [seal(PASSWORDS["dev"], text, b"prod", salt) for text, salt in zip((b"a", b"b", b"b"), SALTS)]
@@ -456,7 +471,7 @@ def check_secret(before: Value, ours: Value, theirs: Value, text: bytes) -> str 
     opened = tool.opened(result.content)
     assert result.why == "", f"it is merged: {case}"
     assert opened.password.source.place == secret.partition("@")[2], f"its password: {case}"
-    assert opened.text == text, f"its text: {case}"
+    assert opened.plaintext == text, f"its text: {case}"
     return secret
 
 
