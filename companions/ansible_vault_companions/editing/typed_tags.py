@@ -1,7 +1,7 @@
 """What is typed after `!vault`, or after a word that looks like it, is encrypted, or the edit is refused. A new value
 that is nearly one with the tag is saved and named.
 
-Only what an edit adds or changes counts. What was shown is the user's own, whatever it is, and may move.
+Only what an edit adds or changes counts. What was shown in plaintext is the user's own, whatever it is, and may move.
 """
 
 from __future__ import annotations
@@ -45,10 +45,10 @@ def refuse_directive(data: bytes) -> None:
         raise Refused(HAS_DIRECTIVE.format(data.count(b"\n", 0, found.start()) + 1))
 
 
-def check_typed_tags(shown: bytes, saved: ParsedYaml) -> None:
+def check_typed_tags(shown: Iterable[ParsedYaml], saved: ParsedYaml) -> None:
     """Refuses a saved text if something in its new lines looks like the tag of a value and is none, or is that of only
-    a part of what is typed after it. A line with another margin is no new one."""
-    known = Counter(line.strip() for line in shown.splitlines())
+    a part of what is typed after it. A line that one of the sides already had so is no new one, whatever its margin."""
+    known = Counter(line.strip() for side in shown for _, line, _ in _find_faults(side))
     for number, line, why in _find_faults(saved):
         known[line.strip()] -= 1
         if known[line.strip()] < 0:
@@ -65,7 +65,8 @@ def _find_faults(saved: ParsedYaml) -> Iterator[tuple[int, bytes, str]]:
             begin = place + start
             tag = TAG.match(saved.data, begin)
             assert tag
-            value = values[bisect_right(begins, tag.end()) - 1] if values else None
+            before = bisect_right(begins, tag.end())
+            value = values[before - 1] if before else None
             why = ""
             if value and value.scalar_start == tag.end():
                 why = CUT_SHORT if _is_cut_short(saved.data, tag.end(1), value) else ""

@@ -111,7 +111,7 @@ class YamlDraft:
         typed = [value for value in after.nodes if value.is_tagged and not _stays_encrypted(value, closed)]
         for value in typed:
             _require_text(value)
-        check_typed_tags(self.plaintext, after)
+        check_typed_tags([side.shown for side in self.sides], after)
         matches = find_matches(self.opened, typed, self.choice)
         envelopes = work_at_once(lambda pair: _seal(tool, *pair), zip(typed, matches))
         changes = [change for pair in zip(typed, matches, envelopes) for change in _write(text, *pair)]

@@ -78,6 +78,13 @@ class Edit(NamedTuple):
 COPIED_LINE = Edit(["first: !vault |", "  20", "# new: !vault hunter2"], 0, ["# new: !vault hunter2"], OLD_TEXT)
 # A text without quotes takes up the lines that are typed below it, as far as one that begins a comment.
 TAKEN_UP = Edit(["first: !vault changeme"], 1, ["  - !vault |", "    hunter2", "    # staple"], OLD_TEXT)
+# The line "!vault |" is in a text that is encrypted, which makes it no line of the user's in plaintext.
+FROM_A_TEXT = Edit(
+    ["first: !vault |", "  $ANSIBLE_VAULT;1.1;AES256", f"  {b'!vault |'.hex()}"],
+    0,
+    ['notes: "', "!vault |", "  hunter2", '  "'],
+    OLD_TEXT,
+)
 
 
 @st.composite
@@ -130,6 +137,7 @@ def test_typed_values(request: pytest.FixtureRequest) -> None:
     @hypothesis.given(edits())
     @hypothesis.example(COPIED_LINE)
     @hypothesis.example(TAKEN_UP)
+    @hypothesis.example(FROM_A_TEXT)
     def check(edit: Edit) -> None:
         try:
             after = save(edit)

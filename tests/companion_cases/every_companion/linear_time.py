@@ -48,7 +48,7 @@ WORKS: dict[str, Callable[[bytes], object]] = {
     "a line with a margin": lambda data: parse_envelopes(b"#" * len(data) + data),
     "a file without an envelope": may_have_envelope,
     "a whole vault": lambda data: header.is_whole_envelope(b"$ANSIBLE_VAULT;1.1;AES256\n" + data),
-    "typed tags": lambda data: check_typed_tags(data, ParsedYaml(data)),
+    "typed tags": lambda data: check_typed_tags([ParsedYaml(data)], ParsedYaml(data)),
     "text after an expression": lambda data: is_placeholder(b"{{ %b }} x" % data),
     "conflict markers": lambda data: (conflicts.is_unmerged(data), conflicts.split_sides(b"<<<<<<<\n" + data)),
 }
