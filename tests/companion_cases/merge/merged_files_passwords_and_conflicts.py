@@ -142,7 +142,8 @@ def test_label_alone(place: Place, is_theirs: bool) -> None:
     """A value that only gets a label on one side has it afterwards, under the same password. If the other side changed
     its text, there is a conflict."""
     head = b"port: %d\nuser: a\nhost: b\n"
-    old, labeled, changed = (block("old", *words, name="a") for words in ((b"a",), (b"a", "prod"), (b"b",)))
+    old, labeled = block("old", b"a", name="a"), block("old", b"a", "prod", name="a")
+    changed = block("old", b"b", name="a")
 
     def merge(other: bytes) -> Done:
         sides = [other, head % 1 + labeled] if is_theirs else [head % 1 + labeled, other]
