@@ -8,7 +8,7 @@ import os
 import sys
 
 # The companions are released together with ansible-vault, under the same version.
-VERSION = "0.7.0"
+VERSION = "0.8.0"
 # The oldest supported Python. An older one, from 3.6 on, can still read this file and the programs, and so reaches the
 # check below: they have no syntax or annotations that it refuses.
 OLDEST = (3, 9)

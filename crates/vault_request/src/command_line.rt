@@ -16,7 +16,7 @@ use clap::{ArgMatches, Command, Error};
 use std::alloc::{AllocError, Global};
 use vault_fault::Fault;
 
-const VERSION: &str = "0.7.0";
+const VERSION: &str = "0.8.0";
 
 /// What ends the parser's help: the program's manual page, and its companions.
 const SEE_ALSO: &str = "See also: ansible-vault(1), \
