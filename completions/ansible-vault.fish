@@ -79,7 +79,7 @@ complete -c ansible-vault-edit -l discard -d 'remove what the last edit could no
 complete -c ansible-vault-edit -l allow-empty -d 'make a new vault even if you save nothing'
 complete -c ansible-vault-hook -s h -l help -d 'print help'
 complete -c ansible-vault-hook -s V -l version -d 'print version'
-complete -c ansible-vault-hook -l all -d 'check the files of the last commit, and its change'
+complete -c ansible-vault-hook -l all -d 'check every file of the last commit, and what it changed'
 complete -c ansible-vault-hook -l since -x -d 'check each later commit'
 complete -c ansible-vault-hook -l install -d 'set up hooks'
 complete -c ansible-vault-hook -l uninstall -d 'undo what --install has set up'

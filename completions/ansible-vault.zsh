@@ -125,7 +125,7 @@ _ansible_vault_specifications() {
         'ansible-vault-hook') specifications=(
             '(- *)'{-h,--help}'[print help]'
             '(- *)'{-V,--version}'[print version]'
-            '(--all --install --since --uninstall)--all[check the files of the last commit, and its change]'
+            '(--all --install --since --uninstall)--all[check every file of the last commit, and what it changed]'
             '(--all --install --since --uninstall)--since=[check each later commit]:COMMIT: '
             '(--all --install --since --uninstall)--install[set up hooks]'
             '(--all --install --since --uninstall)--uninstall[undo what --install has set up]'
