@@ -87,16 +87,11 @@ def _is_at(target: str, old: FileIO | None) -> bool:
 
 
 def write_new(
-    folder: str,
-    content: bytes,
-    like: FileIO | None = None,
-    is_private: bool = False,
-    keeps_owner: bool = True,
-    prefix: str = PREFIX,
+    folder: str, content: bytes, like: FileIO | None, is_private: bool = False, keeps_owner: bool = True
 ) -> str:
     """Writes a new file, and returns its path. Only its owner may read it, unless it is to be like another one."""
     try:
-        descriptor, path = tempfile.mkstemp(SUFFIX, prefix, folder)
+        descriptor, path = tempfile.mkstemp(SUFFIX, PREFIX, folder)
     except OSError as fault:
         raise OSError(fault.errno, fault.strerror, folder) from None
     try:
