@@ -30,7 +30,7 @@ class Finding(NamedTuple):
 
 
 class Known:
-    """The contents of blobs, and what is known of each. It is read again if its plaintexts are needed, too."""
+    """The contents of blobs, and what is known of each."""
 
     def __init__(self, contents: Contents) -> None:
         self.contents = contents
@@ -38,13 +38,15 @@ class Known:
         self.whole_facts: dict[str, Facts] = {"": Facts()}
         self.lengths: dict[str, int] = {}
 
-    def find(self, blob: str) -> Facts:
+    def read(self, blob: str) -> Facts:
+        """What is known of a blob. If it has no envelope, its texts are left out."""
         facts = self.whole_facts.get(blob) or self.facts.get(blob)
         if facts is None:
             facts = self.facts[blob] = find_facts(self.contents.read(blob), needs_plain=False)
         return facts
 
-    def find_whole(self, blob: str) -> Facts:
+    def read_texts(self, blob: str) -> Facts:
+        """The same with its texts, whatever it has."""
         if blob not in self.whole_facts:
             self.whole_facts[blob] = find_facts(self.contents.read(blob), needs_plain=True)
         return self.whole_facts[blob]
@@ -65,7 +67,7 @@ def _join_suffixes(files: list[File], known: Known) -> Iterator[File]:
     """The files. To Ansible, one that is `x.yaml` now, and was `x.yml`, is the same."""
     own = {file: os.path.splitext(file.name)[0] for file in files if may_have_variables(file.name)}
     # Of several that are gone, it was the one that was encrypted.
-    removed = sorted((file for file in own if not file.blob), key=lambda file: known.find(file.before).is_encrypted)
+    removed = sorted((file for file in own if not file.blob), key=lambda file: known.read(file.before).is_encrypted)
     gone = {own[file]: file for file in removed}
     new = {file: gone[name] for file, name in own.items() if not file.before and name in gone}
     replaced = {*new.values()}
@@ -96,9 +98,9 @@ class Evidence:
         """How many values fewer there are at each place in all files together."""
         before, now = Counter[Place](), Counter[Place]()
         for file in self.files if self.is_single else ():
-            after = self.known.find(file.blob)
+            after = self.known.read(file.blob)
             if not (after.is_vault or self.is_example(file)):
-                counts_before, counts_now = compare_texts(self.known.find(file.before), after)
+                counts_before, counts_now = compare_texts(self.known.read(file.before), after)
                 before.update(map(find_variable, counts_before.encrypted.elements()))
                 now.update(map(find_variable, counts_now.encrypted.elements()))
         return before - now
@@ -108,7 +110,7 @@ class Evidence:
         """The vaults that are gone, as they were, unless they were just renamed."""
         now = {file.blob for file in self.files}
         gone = [File(file.name, file.before) for file in self.files if not file.blob]
-        return [file for file in gone if file.blob not in now and self.known.find(file.blob).is_vault]
+        return [file for file in gone if file.blob not in now and self.known.read(file.blob).is_vault]
 
     @cached_property
     def new_plaintexts(self) -> set[File]:
@@ -117,7 +119,7 @@ class Evidence:
             return set()
         before = {file.before for file in self.files}
         new = [file for file in self.files if not file.before and file.blob not in before]
-        facts = {file: self.known.find(file.blob) for file in new}
+        facts = {file: self.known.read(file.blob) for file in new}
         return {file for file in new if not (facts[file].is_vault or facts[file].is_empty)}
 
     @cached_property

@@ -22,11 +22,11 @@ SUFFIX = b".vault.yml"
 
 
 def check_file(evidence: Evidence, file: File) -> Finding | None:
-    was_vault = evidence.known.find(file.before).is_vault
+    was_vault = evidence.known.read(file.before).is_vault
     is_marked = evidence.is_marked(file)
     if not (was_vault or is_marked or file in evidence.new_plaintexts and has_vault_name(file.name)):
         return None
-    now = evidence.known.find_whole(file.blob)
+    now = evidence.known.read_texts(file.blob)
     if not now.unencrypted or now.is_empty and is_yaml(os.fsdecode(file.name)):
         return None
     if was_vault:

@@ -26,16 +26,16 @@ REPAIR = "encrypt and repair it"
 
 
 def check_file(evidence: Evidence, file: File) -> Finding | None:
-    before = evidence.known.find(file.before)
+    before = evidence.known.read(file.before)
     # What had envelopes may be neither YAML nor have any now.
-    now = evidence.known.find_whole(file.blob) if before.envelopes else evidence.known.find(file.blob)
+    now = evidence.known.read_texts(file.blob) if before.envelopes else evidence.known.read(file.blob)
     if now.is_vault or now.is_empty or evidence.is_example(file):
         return None
     if (before.fault or now.fault) and before.envelopes > now.envelopes:
         return Finding(FEWER.format(evidence.since, before.fault or now.fault), REPAIR)
     if not before.has_value and not (evidence.removed_values and may_have_variables(file.name)):
         return None
-    counts = compare_texts(evidence.known.find_whole(file.before), evidence.known.find_whole(file.blob))
+    counts = compare_texts(evidence.known.read_texts(file.before), evidence.known.read_texts(file.blob))
     places = {*_find_in_file(*counts), *_find_elsewhere(evidence.removed_values, *counts)}
     if not places:
         return None
