@@ -516,14 +516,21 @@ BUG = """
 from ansible_vault_companions import output
 output.flush_streams = None
 """
+# A kind below one that a lack of memory or of threads may have.
+UNFINISHED = """
+from ansible_vault_companions import output
+def flush_streams():
+    raise NotImplementedError
+output.flush_streams = flush_streams
+"""
 
 
-@pytest.mark.parametrize("bug", ["", BUG])
+@pytest.mark.parametrize("bug", ["", BUG, UNFINISHED])
 def test_at_exit(place: Place, bug: str) -> None:
     prepare_runs(place)
     done = run_changed(place, CHECK, AT_EXIT + bug, [*place.by_file("old"), "a.yml"])
     assert done.returncode == -signal.SIGTERM, done
-    assert ("TypeError" in done.stderr) == bool(bug), "a bug is reported nevertheless"
+    assert ("Traceback" in done.stderr) == bool(bug), "a bug is reported nevertheless"
 
 
 MOMENTS = 12
