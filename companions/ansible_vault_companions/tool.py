@@ -21,11 +21,11 @@ from ansible_vault_companions.envelopes.header import (
     read_label,
 )
 from ansible_vault_companions.passwords.labels import (
+    Credential,
     Policy,
     describe_attempts,
     order_to_try,
-    require_label,
-    require_named,
+    require_credential,
 )
 from ansible_vault_companions.passwords.password import Password
 from ansible_vault_companions.quoting import escape
@@ -52,47 +52,24 @@ PYTHON_SCRIPT = re.compile(rb"#! *(.*python.*)\n|#!/bin/sh\n'''exec' [\"']?(.*?)
 LONGEST_START = 4_096
 
 
-class Credential:
-    """What encrypts: a password, and the label that the envelope gets."""
-
-    def __init__(self, password: Password, label: str) -> None:
-        self.password = password
-        self.label = label
-
-    def __eq__(self, other: object) -> bool:
-        return isinstance(other, Credential) and (self.password, self.label) == (other.password, other.label)
-
-    def __hash__(self) -> int:
-        return hash((self.password, self.label))
-
-
 class NotDecrypted(Refused):
     """No password decrypts a vault."""
 
 
 class Decryption:
-    """An envelope, the password that decrypts it, and the plaintext."""
+    """An envelope, its label, the password that decrypts it, and the plaintext."""
 
     def __init__(self, envelope: bytes, password: Password, plaintext: bytes, policy: Policy) -> None:
         self.envelope = envelope
+        self.label = read_label(envelope) or ""
         self.password = password
         self.plaintext = plaintext
         # What its label means.
         self.policy = policy
 
-    @property
-    def credential(self) -> Credential:
-        return Credential(self.password, read_label(self.envelope) or "")
-
-    def require_label(self, where: str = "") -> None:
-        """Refuses a text that its label does not allow to encrypt again with this password."""
-        require_label(self.password, self.credential.label, self.policy, where)
-
-    def require_credential(self, where: str = "") -> Credential:
-        """The credential for another text in its place. Refuses one that may not encrypt that."""
-        self.require_label(where)
-        require_named(self.password, self.policy, where)
-        return self.credential
+    def require_credential(self, where: str = "", is_same_text: bool = False) -> Credential:
+        """The credential for another text in its place, or for the same one again. Refuses one that may not do that."""
+        return require_credential(self.password, self.label, self.policy, where, is_same_text)
 
 
 def _name_damage(envelope: bytes, fault: Refused) -> Refused:

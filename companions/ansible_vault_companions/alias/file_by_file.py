@@ -12,7 +12,7 @@ from ansible_vault_companions.alias.standard_input import read_standard_input
 from ansible_vault_companions.envelopes.header import read_label
 from ansible_vault_companions.envelopes.pointers import refuse_pointer
 from ansible_vault_companions.files import link_bounds, reading
-from ansible_vault_companions.passwords.labels import require_label
+from ansible_vault_companions.passwords.labels import require_credential
 from ansible_vault_companions.passwords.password import Password
 from ansible_vault_companions.tool import Tool, find_own
 
@@ -74,7 +74,7 @@ class Files:
         if call.args.command != REKEY:
             return tool.decrypt(data, call.passwords, call.policy).plaintext
         password, envelope = tool.try_passwords(data, call.passwords, call.policy, encrypt)
-        require_label(password, read_label(data) or "", call.policy)
+        require_credential(password, read_label(data) or "", call.policy, is_same_text=True)
         return envelope
 
 

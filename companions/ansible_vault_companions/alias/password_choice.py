@@ -7,7 +7,7 @@ from argparse import Namespace
 from ansible_vault_companions.alias.command_line import ENCRYPT_ID, ENCRYPTING, MATCH, NAME, REKEY, list_passed_on
 from ansible_vault_companions.alias.standard_input import takes_input
 from ansible_vault_companions.passwords import loading, options
-from ansible_vault_companions.passwords.labels import ANY_LABEL, choose_to_encrypt
+from ansible_vault_companions.passwords.labels import ANY_LABEL, choose_credential
 from ansible_vault_companions.passwords.password import Password
 from ansible_vault_companions.passwords.sources import Asking
 
@@ -28,7 +28,7 @@ class Call:
         self.new = self._choose_new(named) if args.command == REKEY else []
         # The one to encrypt with is chosen among all that are named, and refused if it was ignored.
         usable = [password for password in named if not password.fault]
-        self.passwords = [choose_to_encrypt(named, self.label or policy.usual_label)] if encrypts else usable
+        self.passwords = [choose_credential(named, self.label or policy.usual_label).password] if encrypts else usable
         self.needs_match = policy.requires_match and not encrypts
 
     def _choose_new(self, old: list[Password]) -> list[Password]:
@@ -42,7 +42,7 @@ class Call:
             candidates = of_settings if label else []
         if not candidates:
             candidates = [loading.load_typed_password(Asking(True, self.asking.reads_lines), NO_NEW)]
-        chosen = choose_to_encrypt(candidates, label, "of the new passwords, ")
+        chosen = choose_credential(candidates, label, "of the new passwords, ").password
         chosen.confirm()
         return [chosen]
 

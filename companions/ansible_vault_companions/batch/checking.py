@@ -71,7 +71,7 @@ class Check(Work):
 
     def _check_plaintext(self, place: Place, result: Decryption, report: Report) -> None:
         try:
-            result.require_label()
+            result.require_credential(is_same_text=True)
             report.add_envelope(DECRYPTED, place, f"decrypted by {escape(result.password.source.text)}")
         except Refused as fault:
             report.add_envelope(FAILED, place, str(fault))

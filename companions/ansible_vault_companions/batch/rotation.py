@@ -20,10 +20,11 @@ from ansible_vault_companions.envelopes.parsed_text import ParsedText, parse_env
 from ansible_vault_companions.files import replacing
 from ansible_vault_companions.files.searching import FoundFile
 from ansible_vault_companions.batch.textconv_passwords import textconv_lacks
+from ansible_vault_companions.passwords.labels import Credential
 from ansible_vault_companions.passwords.password import Password
 from ansible_vault_companions.quoting import escape
 from ansible_vault_companions.refusals import Refused
-from ansible_vault_companions.tool import DAMAGED, Credential, Decryption, NotDecrypted
+from ansible_vault_companions.tool import DAMAGED, Decryption, NotDecrypted
 
 NOT_IN_GIT = "git diff in this clone lacks the new password: give it to ansible-vault-hook --install, too"
 # A placeholder for the new envelope in a dry run.
@@ -36,8 +37,8 @@ class Rotation(Work):
 
     old: list[Password]
     # The new passwords by their labels; and the one that also replaces the old ones of other labels, if that is wanted.
-    new: dict[str, Password]
-    new_for_any: Password | None
+    new: dict[str, Credential]
+    new_for_any: Credential | None
     is_dry: bool
 
     def finish_file(
@@ -75,7 +76,7 @@ class Rotation(Work):
         if new:
             report.labels.add(label)
             # Those with its label are tried first, so most need a single try.
-            result = self.decrypt(value, [*self.old, new], may_fail=is_prose)
+            result = self.decrypt(value, [*self.old, new.password], may_fail=is_prose)
         else:
             result = self._decrypt_other(value, is_prose)
             new = self.new_for_any if result else None
@@ -97,15 +98,17 @@ class Rotation(Work):
         except NotDecrypted:
             return None
 
-    def _encrypt_again(self, result: Decryption, new: Password | None, place: Place, report: Report) -> bytes | None:
+    def _encrypt_again(self, result: Decryption, new: Credential | None, place: Place, report: Report) -> bytes | None:
         """An envelope with its new password, or with new ones in its plaintext; None if it stays."""
         if self.new_for_any:
             report.labels.add(self.new_for_any.label)
+            credential = self.new_for_any
         else:
-            result.require_label()
+            # Required even if the new one takes its place, which is only for what has the right label.
+            own = result.require_credential(is_same_text=True)
+            credential = new or own
         after = self._within(result.plaintext, place, report)
-        credential = Credential(new, new.label) if new else result.credential
-        keeps = (result.password.content, result.credential.label) == (credential.password.content, credential.label)
+        keeps = (result.password.content, result.label) == (credential.password.content, credential.label)
         if new:
             done = TO_BE_ROTATED if self.is_dry else ROTATED
             report.add_envelope(KEPT if keeps else done, place)

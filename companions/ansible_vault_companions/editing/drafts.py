@@ -18,11 +18,11 @@ from ansible_vault_companions.merging.file_merge import KINDS_DIFFER, TAKE_SIDE
 from ansible_vault_companions.merging.line_merge import Versions, join_lines
 from ansible_vault_companions.merging.conflict_versions import find_versions
 from ansible_vault_companions.merging.vault_merge import VaultMerge
-from ansible_vault_companions.passwords.labels import Policy
+from ansible_vault_companions.passwords.labels import Credential, Policy
 from ansible_vault_companions.passwords.password import Password
 from ansible_vault_companions.quoting import escape
 from ansible_vault_companions.refusals import Refused
-from ansible_vault_companions.tool import Credential, Tool
+from ansible_vault_companions.tool import Tool
 
 NOTHING_TO_EDIT = (
     "it is not a vault, and no value in it has the tag `!vault`; encrypt it with `ansible-vault-with encrypt`, or "
@@ -154,13 +154,11 @@ class Loader:
         draft = YamlDraft(target, content, sides, plaintext, self.choice, base)
         if not draft.tagged:
             raise Refused(NOTHING_TO_EDIT)
-        for old in draft.opened:
-            old.decrypted.require_credential(f"{describe_place(old.value)}: ")
         if len(draft.faults) == len(draft.tagged) and draft.choice.label is None:
             value, why = draft.faults[0]
             raise Refused(f"{describe_place(value)}: {why}{TO_ADD}")
-        credentials = draft.choice.list_new_credentials()
-        if len(credentials) == 1:
+        passwords = draft.choice.list_new_passwords()
+        if len(passwords) == 1:
             # Before somebody types a text for it.
-            credentials[0].password.confirm()
+            passwords[0].confirm()
         return draft

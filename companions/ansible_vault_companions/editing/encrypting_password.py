@@ -12,11 +12,10 @@ from contextlib import suppress
 from typing import NamedTuple
 
 from ansible_vault_companions.passwords import prompts
-from ansible_vault_companions.passwords.labels import choose_to_encrypt, describe_labels, prefer_options
+from ansible_vault_companions.passwords.labels import Credential, choose_credential, describe_labels, prefer_options
 from ansible_vault_companions.passwords.password import Password
 from ansible_vault_companions.quoting import escape
 from ansible_vault_companions.refusals import Refused
-from ansible_vault_companions.tool import Credential
 
 GETS = "new values get the label {}; --encrypt-vault-id chooses another"
 IS_ASKED = "the label of a new value will be asked for; --encrypt-vault-id chooses one"
@@ -55,14 +54,13 @@ class Choice(NamedTuple):
             return of_values
         if self.label is None and len(self.candidates) > 1:
             return None
-        password = choose_to_encrypt(self.passwords, self.label, where)
-        return Credential(password, password.label)
+        return choose_credential(self.passwords, self.label, where)
 
-    def list_new_credentials(self) -> list[Credential]:
-        """The credentials that something new may get; none if the chosen one cannot be used."""
+    def list_new_passwords(self) -> list[Password]:
+        """The passwords that something new may get; none if the chosen one cannot be used."""
         with suppress(Refused):
             only = self.find_credential()
-            return [only] if only else [Credential(password, password.label) for password in self.candidates]
+            return [only.password] if only else self.candidates
         return []
 
     def choose_credential(self, name: str, place: str) -> Credential:
@@ -87,7 +85,7 @@ class Choice(NamedTuple):
             has = describe_labels(self.candidates)
             raise Refused(f"{place} is new; of the labels {has}, choose one with --encrypt-vault-id")
         label = prompts.ask_choice(f"Label to encrypt {name} with", labels)
-        return Credential(choose_to_encrypt(self.candidates, label), label)
+        return choose_credential(self.candidates, label)
 
     def describe(self) -> str:
         """What a new value gets."""

@@ -12,8 +12,9 @@ from typing import Callable, Iterable, NamedTuple, TypeVar
 from ansible_vault_companions.editing.encrypting_password import Choice
 from ansible_vault_companions.envelopes.key_paths import ANY_ITEM, KeyPath
 from ansible_vault_companions.envelopes.node import Node
+from ansible_vault_companions.passwords.labels import Credential
 from ansible_vault_companions.quoting import escape
-from ansible_vault_companions.tool import Credential, Decryption
+from ansible_vault_companions.tool import Decryption
 
 Item = TypeVar("Item")
 
@@ -29,6 +30,10 @@ class DecryptedValue(NamedTuple):
     @property
     def text(self) -> bytes:
         return self.decrypted.plaintext
+
+    def require_credential(self) -> Credential:
+        """The credential for another text in its place. Refuses one that may not encrypt that."""
+        return self.decrypted.require_credential(f"{describe_place(self.value)}: ")
 
 
 class Match(NamedTuple):
@@ -61,13 +66,12 @@ def find_matches(opened: list[DecryptedValue], typed: list[Node], choice: Choice
         if number in kept:
             matches.append(Match(kept[number]))
             continue
-        credentials = replacements.list_credentials(value, choice)
         names = describe_name(value), describe_place(value)
         # A text that is gone may have moved here. It was not kept, so those that had it have several passwords.
-        if len(credentials) > 1 or value.text in texts_gone:
+        if replacements.are_unclear(value, choice) or value.text in texts_gone:
             credential = choice.settle_credential(*names)
         else:
-            credential = credentials.pop() if credentials else choice.choose_credential(*names)
+            credential = replacements.find_credential(value) or choice.choose_credential(*names)
         matches.append(Match(None, credential))
     return matches
 
@@ -88,7 +92,7 @@ def _keep(
         same = sources[group(value), value.text]
         if number in kept or not same:
             continue
-        if same[0].value.path == value.path or len({old.decrypted.credential for old in same}) == 1:
+        if same[0].value.path == value.path or len({old.require_credential() for old in same}) == 1:
             more[number] = same.pop(0)
     return {**kept, **more}
 
@@ -103,24 +107,28 @@ class _Replacements:
     """The values that are gone from their places, and those that are unknown there, all together: there may be many."""
 
     def __init__(self, opened: list[DecryptedValue], replaced: list[DecryptedValue], unknown: list[Node]) -> None:
-        # The credentials of what was replaced at each path, and of all values of each list.
-        self.at_path = _group((old.value.path, old.decrypted.credential) for old in replaced)
-        self.in_list = _group((_list_of(old.value.path), old.decrypted.credential) for old in opened)
+        # The credentials of what was replaced at each path, and the passwords of all values of each list.
+        self.at_path = _group((old.value.path, old.require_credential()) for old in replaced)
+        self.in_list = _group((_list_of(old.value.path), old.decrypted.password.content) for old in opened)
         # The paths of both in each list, and the lists in which these differ.
         self.before = _group((_list_of(old.value.path), old.value.path) for old in replaced)
         self.after = _group((_list_of(value.path), value.path) for value in unknown)
         self.changed = {group for group in self.before if self.before[group] != self.after[group]}
 
-    def list_credentials(self, value: Node, choice: Choice) -> set[Credential]:
-        """The credentials that a new text may get for what it replaces; none if it replaces nothing. If items of its
-        list have come or gone, it may replace any item; if there are more than before, it may also be new."""
+    def are_unclear(self, value: Node, choice: Choice) -> bool:
+        """Whether a new text may get one of several passwords or labels. If items of its list have come or gone, it may
+        replace any item; if there are more than before, it may also be new."""
         group = _list_of(value.path)
         if group in self.changed:
             is_longer = len(self.after[group]) > len(self.before[group])
-            credentials = {*self.in_list[group], *(choice.list_new_credentials() if is_longer else ())}
-            if len({credential.password.content for credential in credentials}) > 1:
-                return credentials
-        return {*self.at_path[value.path]}
+            new = choice.list_new_passwords() if is_longer else []
+            if len({*self.in_list[group], *(password.content for password in new)}) > 1:
+                return True
+        return len(self.at_path[value.path]) > 1
+
+    def find_credential(self, value: Node) -> Credential | None:
+        """The credential of what a new text replaces; None if it replaces nothing."""
+        return next(iter(self.at_path[value.path]), None)
 
 
 def _group(pairs: Iterable[tuple[KeyPath, Item]]) -> dict[KeyPath, set[Item]]:

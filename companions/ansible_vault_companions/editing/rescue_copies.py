@@ -14,9 +14,10 @@ from typing import NamedTuple
 from ansible_vault_companions import refusals
 from ansible_vault_companions.envelopes.header import read_label
 from ansible_vault_companions.files import reading, replacing
+from ansible_vault_companions.passwords.labels import Credential
 from ansible_vault_companions.quoting import escape
 from ansible_vault_companions.refusals import Refused
-from ansible_vault_companions.tool import Credential, Decrypt, Tool
+from ansible_vault_companions.tool import Decrypt, Tool
 
 # Precedes the text of a copy, so that no text begins like a vault, which ansible-vault would not encrypt. The digest is
 # that of the text that the edit began with.

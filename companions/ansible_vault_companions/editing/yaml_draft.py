@@ -27,9 +27,10 @@ from ansible_vault_companions.envelopes.layout import (
 from ansible_vault_companions.envelopes.node import ALIAS, FOLDED, LITERAL, NO_SCALAR, PLAIN, Node
 from ansible_vault_companions.envelopes.parsed_text import ParsedYaml, require_nodes
 from ansible_vault_companions.parallel import work_at_once
+from ansible_vault_companions.passwords.labels import Credential, choose_credential
 from ansible_vault_companions.quoting import escape
 from ansible_vault_companions.refusals import Refused
-from ansible_vault_companions.tool import Credential, Decrypt, Tool
+from ansible_vault_companions.tool import Decrypt, Tool
 
 NOT_A_STRING = "is a list, a mapping or a key, not a string; put quotes around a text"
 NOTHING_TYPED = 'is missing after `!vault`; write `""` for an empty one'
@@ -86,17 +87,18 @@ class YamlDraft:
         self.opened = sorted((old for side in sides for old in side.opened), key=lambda old: old.scalar in base)
         self.faults = [fault for side in sides for fault in side.faults]
         labels = {value.label for value in self.tagged if value.is_envelope}
-        credentials = {old.decrypted.credential for old in self.opened}
+        credentials = {old.require_credential() for old in self.opened}
         of_values = credentials.pop() if len(credentials) == len(labels) == 1 else None
         self.choice = choice._replace(credential_of_values=of_values, in_conflict=len(sides) > 1)
 
     @property
     def credential(self) -> Credential | None:
         """The credential of the whole text, with new values; None if they have several passwords, or may have."""
-        new = self.choice.list_new_credentials()
-        credentials = [*(old.decrypted.credential for old in self.opened), *new]
-        is_single = new and len({credential.password.content for credential in credentials}) == 1
-        return credentials[0] if is_single else None
+        new = self.choice.list_new_passwords()
+        passwords = [*(old.decrypted.password for old in self.opened), *new]
+        if not new or len({password.content for password in passwords}) > 1:
+            return None
+        return self.opened[0].require_credential() if self.opened else choose_credential(new[:1])
 
     def is_as_it_was(self, text: bytes) -> bool:
         is_done = len(self.sides) == 1 and all(value.is_envelope for value in self.tagged)

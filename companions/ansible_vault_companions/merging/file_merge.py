@@ -13,8 +13,9 @@ from ansible_vault_companions.envelopes.pointers import Pointer, refuse_pointer
 from ansible_vault_companions.merging.line_merge import MOST_CONFLICTS, OneSideOnly, Versions
 from ansible_vault_companions.merging.value_merge import ValueMerge
 from ansible_vault_companions.merging.vault_merge import VaultMerge
+from ansible_vault_companions.passwords.labels import Credential
 from ansible_vault_companions.refusals import Refused
-from ansible_vault_companions.tool import Credential, Decrypt, Tool
+from ansible_vault_companions.tool import Decrypt, Tool
 
 NOT_MERGED = "not merged, so both sides are whole in the file: {}"
 # What to do with a conflict in the file that this pathspec names.

@@ -5,13 +5,13 @@ from __future__ import annotations
 
 from typing import AbstractSet, Optional
 
+from ansible_vault_companions.passwords.labels import Credential
 from ansible_vault_companions.quoting import escape
 from ansible_vault_companions.refusals import Refused
-from ansible_vault_companions.tool import Credential
 
 TWO_PASSWORDS = "the passwords of the two sides differ; CONFLICTS in `man ansible-vault-edit` says how to choose one"
 TWO_LABELS = "the labels differ: {} in ours, {} in theirs; choose one with --encrypt-vault-id"
-# The credentials of a version's envelopes; None for one that is not decrypted.
+# The credentials of a version's envelopes; None for an envelope that has none.
 VersionCredentials = AbstractSet[Optional[Credential]]
 
 

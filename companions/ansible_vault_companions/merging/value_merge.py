@@ -30,8 +30,9 @@ from ansible_vault_companions.merging.line_merge import (
 )
 from ansible_vault_companions.merging.result_credential import choose_value_credential
 from ansible_vault_companions.parallel import work_at_once
+from ansible_vault_companions.passwords.labels import Credential
 from ansible_vault_companions.refusals import Refused
-from ansible_vault_companions.tool import Credential, Decrypt, Decryption, Tool
+from ansible_vault_companions.tool import Decrypt, Decryption, Tool
 
 MERGED_NOT_YAML = "git can merge its lines, but then {}"
 HAS_MARKERS = "it has lines that look like git's conflict markers"
@@ -85,15 +86,15 @@ class ValueMerge:
         for side, values in self.values.items():
             for value in values:
                 found = self.decrypted.get(value.text)
-                credentials[side][value.label].add(found.credential if found else None)
-        labels = {each.credential.label for each in self.decrypted.values()}
+                credentials[side][value.label].add(found.require_credential() if found else None)
+        labels = {each.label for each in self.decrypted.values()}
         ours, base, theirs = (credentials[side] for side in SIDES)
         return {
             label: choose_value_credential(label, ours[label], base[label], theirs[label], chosen) for label in labels
         }
 
     def _find_credential(self, found: Decryption) -> Credential:
-        return self.credentials[found.credential.label] or found.credential
+        return self.credentials[found.label] or found.require_credential()
 
     def _shadow(self, side: str) -> bytes:
         """The data of a side, with tokens in place of its envelopes."""
@@ -148,7 +149,7 @@ class ValueMerge:
     def _has_credential(self, use: Use) -> bool:
         """Whether a value is under the credential of the result."""
         found = self.decrypted.get(use.value.text)
-        return found is None or found.credential == self._find_credential(found)
+        return found is None or found.require_credential() == self._find_credential(found)
 
     def _check(self, content: bytes, has_conflict: bool) -> None:
         """Refuses a result that is no YAML though both sides are, or that has other envelopes than these."""
@@ -169,7 +170,7 @@ def _list_values(parsed: ParsedText) -> list[Node]:
 def _try_to_decrypt(decrypt: Decrypt, text: bytes) -> Decryption | None:
     try:
         decrypted = decrypt(text)
-        decrypted.require_label()
+        decrypted.require_credential()
     except Refused:
         return None
     return decrypted

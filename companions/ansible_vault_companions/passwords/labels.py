@@ -49,6 +49,22 @@ class Policy:
 ANY = Policy(requires_match=False, any_label=True)
 
 
+class Credential:
+    """What encrypts: a password, and the label that the envelope gets. Only `choose_credential`, for something new, and
+    `require_credential`, in place of an envelope, make one. So whoever has one has passed their checks, and what is
+    merely decrypted has a password and a label, but no credential."""
+
+    def __init__(self, password: Password, label: str) -> None:
+        self.password = password
+        self.label = label
+
+    def __eq__(self, other: object) -> bool:
+        return isinstance(other, Credential) and (self.password, self.label) == (other.password, other.label)
+
+    def __hash__(self) -> int:
+        return hash((self.password, self.label))
+
+
 def make_policy(
     passwords: Iterable[Password], settings: Settings, any_label: bool, requires_match: bool = False
 ) -> Policy:
@@ -86,10 +102,10 @@ def list_with_label(passwords: Iterable[Password], label: str) -> list[Password]
     return [password for password in passwords if password.label == label]
 
 
-def choose_to_encrypt(passwords: Sequence[Password], label: str | None, where: str = "") -> Password:
-    """The password to encrypt with: the one with this label, or else the only one. One that an option names goes before
-    those of the settings. Raises Refused if it cannot be used, since no other encrypts in its place; if several are
-    left; or if none has the label."""
+def choose_credential(passwords: Sequence[Password], label: str | None = None, where: str = "") -> Credential:
+    """What encrypts something new: the password with this label, or else the only one. One that an option names goes
+    before those of the settings. Raises Refused if it cannot be used, since no other encrypts in its place; if several
+    are left; or if none has the label."""
     chosen = prefer_options(list_with_label(passwords, label) if label else passwords)
     if label and not chosen:
         raise Refused(f"{where}{NONE_HAS_LABEL.format(escape(label), describe_labels(passwords))}")
@@ -100,15 +116,19 @@ def choose_to_encrypt(passwords: Sequence[Password], label: str | None, where: s
     if len({password.content for password in chosen}) > 1:
         names = " and ".join(escape(password.source.text) for password in chosen)
         raise Refused(f"{names} have the label {escape(chosen[0].label)}; name only the password to encrypt with")
-    return chosen[0]
+    return Credential(chosen[0], chosen[0].label)
 
 
 def describe_labels(passwords: Iterable[Password]) -> str:
     return ", ".join(escape(password.label) for password in passwords)
 
 
-def require_label(password: Password, label: str, policy: Policy, where: str = "") -> None:
-    """Refuses to encrypt again, with the password that decrypted it, a text whose envelope has this label."""
+def require_credential(
+    password: Password, label: str, policy: Policy, where: str = "", is_same_text: bool = False
+) -> Credential:
+    """What encrypts in place of an envelope with this label: the password that decrypted it. Refuses one that the label
+    does not allow. Unless the text stays the same, it also refuses, beside an option that names a password, one that
+    only ./ansible.cfg names: that may be a stranger's, who knows it."""
     own = escape(password.label)
     if "@" in label:
         why = f"has an @, so no option can name it; give it another one with `{RELABEL}`"
@@ -119,16 +139,12 @@ def require_label(password: Password, label: str, policy: Policy, where: str = "
             f"password with the label {own}, decrypts it; unless somebody changed the label or copied the text here, "
             f"give it the label {own} with `{RELABEL}`, or accept it with {ANY_LABEL}"
         )
-
-
-def require_named(password: Password, policy: Policy, where: str = "") -> None:
-    """Refuses to encrypt, beside an option that names a password, with one that only ./ansible.cfg names: that may be a
-    stranger's, who knows it."""
-    if policy.has_options and password.source.is_of_folder:
+    if not is_same_text and policy.has_options and password.source.is_of_folder:
         raise Refused(
             f"{where}{escape(password.source.text)} decrypts it, which only ./ansible.cfg names; to encrypt with it, "
             "name it with an option, too"
         )
+    return Credential(password, label)
 
 
 def _explain_default(label: str) -> str:

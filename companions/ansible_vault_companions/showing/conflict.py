@@ -30,7 +30,7 @@ def show_conflict(
 
 def _merge_vaults(sides: Versions, decrypt: Decrypt) -> list[bytes]:
     vaults = VaultMerge(decrypt, sides)
-    labels = dict.fromkeys((vaults.ours.credential.label, vaults.theirs.credential.label))
+    labels = dict.fromkeys((vaults.ours.label, vaults.theirs.label))
     return [first_line.describe_vault(" and ".join(labels)), vaults.merged_lines.text]
 
 

@@ -63,7 +63,7 @@ def _show_vault(companion: str, target: str, passwords: list[Password], policy: 
         if conflicts.is_unmerged(vault):
             return None
         raise
-    return [first_line.describe_vault(decrypted.credential.label), decrypted.plaintext]
+    return [first_line.describe_vault(decrypted.label), decrypted.plaintext]
 
 
 def _show_values(

@@ -12,10 +12,11 @@ import pytest
 from hypothesis import strategies as st
 
 from ansible_vault_companions.editing.encrypting_password import Choice
+from ansible_vault_companions.passwords.labels import Credential
 from ansible_vault_companions.passwords.password import Password
 from ansible_vault_companions.passwords.sources import parse_vault_id
 from ansible_vault_companions.refusals import Refused
-from ansible_vault_companions.tool import Credential, Decryption
+from ansible_vault_companions.tool import Decryption
 from companion_cases import EDIT, Done, Place, block, check_answer, edit, ended, sealed, silent, texts
 from companion_cases.editing.random_yaml import POLICY, Hexadecimal, envelope, make_draft
 

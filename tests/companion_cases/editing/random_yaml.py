@@ -17,11 +17,11 @@ from ansible_vault_companions.envelopes.header import LINE_END
 from ansible_vault_companions.envelopes.key_paths import KeyPath
 from ansible_vault_companions.envelopes.layout import Replacement, apply_replacements, find_column
 from ansible_vault_companions.envelopes.parsed_text import require_nodes
-from ansible_vault_companions.passwords.labels import Policy
+from ansible_vault_companions.passwords.labels import Credential, Policy
 from ansible_vault_companions.passwords.password import Password
 from ansible_vault_companions.passwords.sources import make_path_source
 from ansible_vault_companions.refusals import Refused
-from ansible_vault_companions.tool import Credential, Decrypt, Decryption, Tool
+from ansible_vault_companions.tool import Decrypt, Decryption, Tool
 from companion_cases.envelopes.found_and_replaced_envelopes import LOADERS, Generator, composed
 
 SECRET = Password(make_path_source(""), b"", -1)

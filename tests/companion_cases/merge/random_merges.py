@@ -20,10 +20,10 @@ from hypothesis import strategies as st
 from ansible_vault_companions.envelopes.header import MAGIC
 from ansible_vault_companions.merging.file_merge import MergedFile, merge_file
 from ansible_vault_companions.merging.line_merge import Versions
-from ansible_vault_companions.passwords.labels import Policy
+from ansible_vault_companions.passwords.labels import Credential, Policy
 from ansible_vault_companions.passwords.password import Password
 from ansible_vault_companions.passwords.sources import parse_vault_id
-from ansible_vault_companions.tool import REMEMBERED_BYTES, Credential, Decryption, NotDecrypted, Tool
+from ansible_vault_companions.tool import REMEMBERED_BYTES, Decryption, NotDecrypted, Tool
 from companion_cases import PASSWORDS, decrypted
 from companion_cases.repository import SALTS, by_git, repository
 from lib.needs import needs, needs_pyyaml
