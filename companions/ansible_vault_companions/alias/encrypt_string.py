@@ -27,7 +27,7 @@ class String(NamedTuple):
 def encrypt_strings(companion: str, call: Call) -> int:
     """Writes a value for each string, in Ansible's order. Returns the exit status."""
     tool = find_own(companion)
-    strings = _list_strings(call.args, call.asking.reads_lines)
+    strings = _list_strings(call.args, call.purpose.reads_lines)
     values = []
     for number, string in enumerate(strings, 1):
         named = [f"--stdin-name={string.name}"] if string.name else []

@@ -9,7 +9,7 @@ from ansible_vault_companions.alias.standard_input import takes_input
 from ansible_vault_companions.passwords import loading, options
 from ansible_vault_companions.passwords.labels import ANY_LABEL, choose_credential
 from ansible_vault_companions.passwords.password import Password
-from ansible_vault_companions.passwords.sources import Asking
+from ansible_vault_companions.passwords.sources import Purpose
 
 NO_NEW = "no new password is given: name one with --new-vault-id or --new-vault-password-file, or use a terminal"
 
@@ -20,8 +20,8 @@ class Call:
     def __init__(self, args: Namespace) -> None:
         encrypts = args.command in ENCRYPTING
         self.args = args
-        self.asking = Asking(encrypts, reads_lines=not takes_input(args))
-        named, policy = options.load_named(NAME, args, self.asking)
+        self.purpose = Purpose(encrypts, reads_lines=not takes_input(args))
+        named, policy = options.load_named(NAME, args, self.purpose)
         self.policy = policy
         # The label that chooses the password to encrypt with.
         self.label: str | None = getattr(args, "encrypt_vault_id", None)
@@ -34,14 +34,14 @@ class Call:
     def _choose_new(self, old: list[Password]) -> list[Password]:
         """The new password of options, else the one of the settings with the chosen label, else a typed one. Where an
         option names an old one, the settings choose none."""
-        candidates = options.load_new_passwords(self.args, self.asking.reads_lines)
+        candidates = options.load_new_passwords(self.args, self.purpose.reads_lines)
         label = self.label
         if not candidates:
             of_settings = [password for password in old if password.source.is_setting]
             label = label or (self.policy.usual_label if of_settings == old else None)
             candidates = of_settings if label else []
         if not candidates:
-            candidates = [loading.load_typed_password(Asking(True, self.asking.reads_lines), NO_NEW)]
+            candidates = [loading.load_typed_password(Purpose(True, self.purpose.reads_lines), NO_NEW)]
         chosen = choose_credential(candidates, label, "of the new passwords, ").password
         chosen.confirm()
         return [chosen]

@@ -15,7 +15,7 @@ from ansible_vault_companions.passwords import working_tree
 from ansible_vault_companions.passwords.labels import is_allowed
 from ansible_vault_companions.passwords.password import Password
 from ansible_vault_companions.passwords.settings import expand_path
-from ansible_vault_companions.passwords.sources import ASK_ID, Asking, NoAnswer, Source, parse_vault_id
+from ansible_vault_companions.passwords.sources import ASK_ID, NoAnswer, Purpose, Source, parse_vault_id
 from ansible_vault_companions.quoting import escape
 from ansible_vault_companions.refusals import Refused, describe_fault
 
@@ -24,14 +24,12 @@ NO_DESCRIPTORS = (
 )
 
 
-def read_passwords(
-    name: str, sources: list[Source], asking: Asking, skips: bool = False, for_git: bool = False
-) -> list[Password]:
+def read_passwords(name: str, sources: list[Source], purpose: Purpose) -> list[Password]:
     """Reads the passwords. Those that are ignored stay in the list, since the one to encrypt with is chosen among all
     that are named."""
     has_options = not all(source.is_setting for source in sources)
-    passwords = [read_password(source, asking, for_git, has_options) for source in sources]
-    ignored = _list_ignored(passwords, skips)
+    passwords = [read_password(source, purpose, has_options) for source in sources]
+    ignored = _list_ignored(passwords, purpose)
     for password in ignored:
         write_error(f"{name}: {escape(password.source.text)}: {password.fault}; it is ignored")
     for password in passwords:
@@ -40,26 +38,26 @@ def read_passwords(
     return passwords
 
 
-def _list_ignored(passwords: list[Password], skips: bool) -> list[Password]:
-    """Those of the settings that cannot be used, if any other is left; with `skips`, all that cannot be used."""
+def _list_ignored(passwords: list[Password], purpose: Purpose) -> list[Password]:
+    """Those of the settings that cannot be used, if any other is left; or all that cannot, if the purpose says so."""
     faulty = [password for password in passwords if password.fault]
-    if skips:
+    if purpose.ignores_faulty:
         return faulty
     ignored = [password for password in faulty if password.source.is_setting]
     return ignored if len(ignored) < len(passwords) else []
 
 
-def load_password(source: Source, asking: Asking) -> Password:
+def load_password(source: Source, purpose: Purpose) -> Password:
     """Reads a password that must be usable."""
-    password = read_password(source, asking)
+    password = read_password(source, purpose)
     if password.fault:
         raise password.make_refusal(password.fault)
     return password
 
 
-def load_typed_password(asking: Asking, unanswered: str) -> Password:
+def load_typed_password(purpose: Purpose, unanswered: str) -> Password:
     """Asks for a password where nothing names one. Raises Refused with the text `unanswered` if nobody answers."""
-    password = read_password(parse_vault_id(ASK_ID), asking)
+    password = read_password(parse_vault_id(ASK_ID), purpose)
     if password.is_unanswered:
         raise Refused(unanswered)
     if password.fault:
@@ -67,19 +65,19 @@ def load_typed_password(asking: Asking, unanswered: str) -> Password:
     return password
 
 
-def read_password(source: Source, asking: Asking, for_git: bool = False, has_options: bool = False) -> Password:
+def read_password(source: Source, purpose: Purpose, has_options: bool = False) -> Password:
     """Keeps a password in memory, since `<(..)` can be read only once. To encrypt, the user has to type it twice. What
     git runs takes no file of the repository."""
     try:
-        content = _read(source, asking, for_git, has_options)
+        content = _read(source, purpose, has_options)
         descriptor = _keep_in_memory(content)
     except (Refused, OSError) as fault:
         why = describe_fault(fault, os.path.expanduser(os.path.expandvars(source.place)))
         return Password(source, b"", -1, why, is_unanswered=isinstance(fault, NoAnswer))
     _require_descriptors(descriptor)
     why = _find_fault(source.label, content)
-    is_doubtful = source.is_prompt and not asking.encrypts and not why
-    return Password(source, content.strip(), descriptor, why, asking if is_doubtful else None)
+    is_doubtful = source.is_prompt and not purpose.encrypts and not why
+    return Password(source, content.strip(), descriptor, why, purpose if is_doubtful else None)
 
 
 def _keep_in_memory(content: bytes) -> int:
@@ -96,15 +94,15 @@ def _require_descriptors(descriptor: int) -> None:
         raise Refused(NO_DESCRIPTORS)
 
 
-def _read(source: Source, asking: Asking, for_git: bool, has_options: bool) -> bytes:
+def _read(source: Source, purpose: Purpose, has_options: bool) -> bytes:
     if source.is_prompt:
         # Most passwords are in files, which are read without this module and that of scripts.
         from ansible_vault_companions.passwords import prompts
 
-        return prompts.ask_password(source.place, source.label, asking)
+        return prompts.ask_password(source.place, source.label, purpose)
     path = expand_path(source.place)
     mode = os.stat(path).st_mode
-    if for_git:
+    if purpose.for_git:
         working_tree.refuse_within(path)
     if stat.S_ISREG(mode) and mode & 0o111:
         if source.is_of_folder:

@@ -13,7 +13,7 @@ from ansible_vault_companions.passwords.settings import Settings
 from ansible_vault_companions.passwords.sources import (
     ASK_ID,
     ASK_OPTIONS,
-    Asking,
+    Purpose,
     Source,
     list_sources,
     make_path_source,
@@ -61,43 +61,32 @@ def add_any_label(parser: argparse.ArgumentParser, text: str = ANY_LABEL_HELP) -
 
 
 def load_passwords(
-    parser: argparse.ArgumentParser,
-    args: argparse.Namespace,
-    encrypts: bool = False,
-    skips: bool = False,
-    reads_lines: bool = False,
-    for_git: bool = False,
+    parser: argparse.ArgumentParser, args: argparse.Namespace, purpose: Purpose = Purpose()
 ) -> tuple[list[Password], Policy]:
-    """The passwords of a command line that is invalid if nothing names one. With `skips`, those that cannot be used are
-    ignored; with `reads_lines`, lines of standard input answer if there is no terminal."""
-    return load_named(parser.prog, args, Asking(encrypts, reads_lines), skips, for_git, parser)
+    """The passwords of a command line that is invalid if nothing names one."""
+    return load_named(parser.prog, args, purpose, parser)
 
 
 def load_named(
-    name: str,
-    args: argparse.Namespace,
-    asking: Asking,
-    skips: bool = False,
-    for_git: bool = False,
-    parser: argparse.ArgumentParser | None = None,
+    name: str, args: argparse.Namespace, purpose: Purpose, parser: argparse.ArgumentParser | None = None
 ) -> tuple[list[Password], Policy]:
     """The passwords that options and settings name, and what labels mean to them. The parser is for a command line that
     is invalid if nothing names one."""
-    settings = read_settings(args, lambda text: write_error(f"{name}: {text}"), for_git)
+    settings = read_settings(args, lambda text: write_error(f"{name}: {text}"), purpose.for_git)
     sources = list_sources(args.vault_id, args.vault_password_file, settings)
     if sources:
-        passwords = loading.read_passwords(name, sources, asking, skips, for_git)
+        passwords = loading.read_passwords(name, sources, purpose)
     else:
-        passwords = [_ask_or_refuse(args, asking, parser)]
+        passwords = [_ask_or_refuse(args, purpose, parser)]
     requires_match = getattr(args, "require_id_match", False)
     return passwords, make_policy(passwords, settings, args.any_label, requires_match)
 
 
-def _ask_or_refuse(args: argparse.Namespace, asking: Asking, parser: argparse.ArgumentParser | None) -> Password:
+def _ask_or_refuse(args: argparse.Namespace, purpose: Purpose, parser: argparse.ArgumentParser | None) -> Password:
     """The password that the user types, if a companion asks for it. Otherwise, the command line is invalid or, without
     a parser, Refused is raised."""
     if args.asks_if_none:
-        return loading.load_typed_password(asking, NO_PASSWORD)
+        return loading.load_typed_password(purpose, NO_PASSWORD)
     if parser:
         parser.error(NO_PASSWORD)
     raise Refused(NO_PASSWORD)
@@ -106,7 +95,7 @@ def _ask_or_refuse(args: argparse.Namespace, asking: Asking, parser: argparse.Ar
 def load_new_passwords(args: argparse.Namespace, reads_lines: bool = False) -> list[Password]:
     """The new passwords from a command line."""
     sources = _parse_sources(args.new_vault_id, args.new_vault_password_file)
-    return [loading.load_password(source, Asking(True, reads_lines)) for source in sources]
+    return [loading.load_password(source, Purpose(True, reads_lines)) for source in sources]
 
 
 def list_files(ids: list[str], paths: list[str]) -> list[str]:

@@ -2,7 +2,7 @@
 
 from __future__ import annotations
 
-from ansible_vault_companions.passwords.sources import Asking, Source
+from ansible_vault_companions.passwords.sources import Purpose, Source
 from ansible_vault_companions.quoting import escape
 from ansible_vault_companions.refusals import Refused
 
@@ -16,7 +16,7 @@ class Password:
         content: bytes,
         descriptor: int,
         fault: str = "",
-        doubt: Asking | None = None,
+        doubt: Purpose | None = None,
         is_unanswered: bool = False,
     ) -> None:
         self.source = source

@@ -13,7 +13,7 @@ from select import select
 
 from ansible_vault_companions.output import write_error, write_when_possible
 from ansible_vault_companions.passwords.settings import ASK, PROMPT
-from ansible_vault_companions.passwords.sources import Asking, NoAnswer
+from ansible_vault_companions.passwords.sources import NoAnswer, Purpose
 from ansible_vault_companions.quoting import escape
 from ansible_vault_companions.refusals import Refused
 
@@ -35,18 +35,18 @@ TO_ENCRYPT = {
 }
 
 
-def ask_password(kind: str, label: str, asking: Asking) -> bytes:
+def ask_password(kind: str, label: str, purpose: Purpose) -> bytes:
     """The password that the user types: once to decrypt, twice to encrypt."""
-    questions = (TO_ENCRYPT if asking.encrypts else TO_DECRYPT)[kind]
-    typed = [_ask_hidden_password(question.format(escape(label)), asking) for question in questions]
+    questions = (TO_ENCRYPT if purpose.encrypts else TO_DECRYPT)[kind]
+    typed = [_ask_hidden_password(question.format(escape(label)), purpose) for question in questions]
     if len(set(typed)) > 1:
         raise Refused(DIFFER)
     return typed[0]
 
 
-def confirm_password(kind: str, label: str, content: bytes, asking: Asking) -> bool:
+def confirm_password(kind: str, label: str, content: bytes, purpose: Purpose) -> bool:
     """Whether the user types a password again."""
-    return _ask_hidden_password(TO_ENCRYPT[kind][-1].format(escape(label)), asking) == content
+    return _ask_hidden_password(TO_ENCRYPT[kind][-1].format(escape(label)), purpose) == content
 
 
 def ask_string(is_hidden: bool, reads_lines: bool) -> bytes:
@@ -80,8 +80,8 @@ def _ask_until(question: str, answers: list[str]) -> str:
     return typed
 
 
-def _ask_hidden_password(question: str, asking: Asking) -> bytes:
-    typed = _ask(question, is_hidden=True, reads_lines=asking.reads_lines, unanswered=NO_PASSWORD).strip()
+def _ask_hidden_password(question: str, purpose: Purpose) -> bytes:
+    typed = _ask(question, is_hidden=True, reads_lines=purpose.reads_lines, unanswered=NO_PASSWORD).strip()
     if not typed:
         raise Refused("you typed an empty password; try again")
     return typed

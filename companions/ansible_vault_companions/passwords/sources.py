@@ -16,14 +16,20 @@ class NoAnswer(Refused):
     """There is nobody to ask, or nobody answers."""
 
 
-class Asking:
-    """How passwords are asked for."""
+class Purpose:
+    """What the passwords of a command line are for."""
 
-    def __init__(self, encrypts: bool, reads_lines: bool) -> None:
+    def __init__(
+        self, encrypts: bool = False, reads_lines: bool = False, ignores_faulty: bool = False, for_git: bool = False
+    ) -> None:
         # Whether they are to encrypt, so that each is typed twice.
         self.encrypts = encrypts
         # Whether lines of standard input answer if there is no terminal.
         self.reads_lines = reads_lines
+        # Whether those that cannot be used are ignored, even if options name them or no other is left.
+        self.ignores_faulty = ignores_faulty
+        # Whether git runs the companion, so that the repository has none and, beside an option, names none.
+        self.for_git = for_git
 
 
 class Source:
