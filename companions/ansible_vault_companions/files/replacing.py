@@ -36,8 +36,8 @@ def replace(
         try:
             _require_same(target, old, before)
             os.replace(beside, target)
-        except BaseException:
-            os.unlink(beside)
+        except BaseException as failed:
+            _remove_new(beside, failed)
             raise
         try:
             _sync(os.path.dirname(target))
@@ -101,10 +101,19 @@ def write_new(
             if like is not None:
                 _copy_metadata(descriptor, like.fileno(), is_private, keeps_owner)
             os.fsync(descriptor)
-    except BaseException:
-        os.unlink(path)
+    except BaseException as failed:
+        _remove_new(path, failed)
         raise
     return path
+
+
+def _remove_new(path: str, failed: BaseException) -> None:
+    """Removes a new file after a failure. If that fails, too, the exception also says what was refused before."""
+    try:
+        os.unlink(path)
+    except OSError as fault:
+        why = f"{fault.strerror}; {failed}" if isinstance(failed, Refused) else fault.strerror
+        raise OSError(fault.errno, why, path) from None
 
 
 def _copy_metadata(descriptor: int, like: int, is_private: bool, keeps_owner: bool) -> None:

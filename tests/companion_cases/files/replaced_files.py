@@ -173,6 +173,26 @@ def test_changed_meanwhile(place: Place, subtests: SubTests) -> None:
             assert place.files() == theirs, "their change stays, and nothing is left"
 
 
+# The directory of a vault moves away before the new vault takes its place.
+MOVED = """
+require_same = replacing._require_same
+def move(target, old, before):
+    if any(name.endswith(".new") for name in os.listdir(os.path.dirname(target))):
+        os.rename(os.path.dirname(target), f"{os.path.dirname(target)}.away")
+    require_same(target, old, before)
+replacing._require_same = move
+"""
+
+
+def test_directory_that_moves_away(place: Place) -> None:
+    """The message names the new file, which is left, and says why it is not needed."""
+    place.put("folder/a.yml", sealed("old"))
+    done = run_changed(place, ROTATE, MOVED, [*to_new(place), "folder/a.yml"])
+    why = r"folder/\.ansible-vault-\w{8}\.new: No such file or directory; another program changed it in the meantime\n"
+    assert re.search(why, done.stderr), done
+    assert decrypted("old", place.get("folder.away/a.yml")) == TEXT, "the vault stays"
+
+
 OLD = "--vault-password-file ../secrets/old"
 # Where standard output goes, and why it cannot be written.
 OUTPUTS = {">&-": "Bad file descriptor", "> /dev/full": "No space left on device", "| :": "Broken pipe"}
