@@ -16,16 +16,8 @@ class Refused(Exception):
 
 
 def describe_fault(fault: BaseException, path: str = "") -> str:
-    """The reason for a failure, and for one that it came after, which may say what is done or where a text is kept. It
-    names the file that the system refused, unless that is the one at this path, with which the message begins anyway.
-    """
-    before = fault.__context__
-    if isinstance(before, Refused) and not fault.__suppress_context__:
-        return f"{_describe_alone(fault, path)}; {before}"
-    return _describe_alone(fault, path)
-
-
-def _describe_alone(fault: BaseException, path: str) -> str:
+    """The reason for a failure. It names the file that the system refused, unless that is the one at this path, with
+    which the message begins anyway."""
     if not isinstance(fault, OSError) or not fault.strerror:
         return str(fault)
     if fault.filename is None or isinstance(fault.filename, int) or _is_same(os.fsdecode(fault.filename), path):

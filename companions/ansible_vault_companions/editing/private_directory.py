@@ -10,8 +10,7 @@ import tempfile
 from contextlib import suppress
 from pathlib import PurePath
 
-from ansible_vault_companions import refusals, signals
-from ansible_vault_companions.editing.editor import describe_signal
+from ansible_vault_companions import refusals
 from ansible_vault_companions.files import reading
 from ansible_vault_companions.quoting import escape
 from ansible_vault_companions.refusals import Refused
@@ -22,7 +21,7 @@ READ_BY_SHELLS = re.compile(r"[^\w.,@%+-]")
 NO_PRIVATE_FOLDER = (
     "no private directory can be made for the plaintext ({}); set TMPDIR to a directory that only you can open"
 )
-STAYS_IN_PLAINTEXT = "{}; what you saved is left in plaintext in {}"
+STAYS_IN_PLAINTEXT = "what you saved is left in plaintext in {}"
 # A swap file of an editor that was ended has what was not saved.
 LEFT = "{} is left, with {} in it; save what you need, which may be plaintext, and remove it yourself"
 
@@ -42,56 +41,33 @@ def require_own_folder(path: str) -> None:
 
 
 class PrivateDirectory:
-    """A directory of the user's own with a file, in memory if possible. At the end, each file in it is removed whose
-    text is elsewhere: that which the edit began with, or one that was stored. Any other has something that somebody
-    typed, so it stays, and the directory is named."""
+    """A directory of the user's own, in memory if possible, with a file that is named like the one at this path."""
 
     def __init__(self, path: str, text: bytes) -> None:
-        # The file that is edited, as on the command line.
-        self.edited = path
-        # The texts that are elsewhere; and what came of the edit.
-        self.texts = {text, b""}
-        self.outcome = ""
+        self.text = text
         name = READ_BY_SHELLS.sub("_", os.path.basename(path))
         self.path = _make(name, text)
         self.file = os.path.join(self.path, name)
 
-    def release(self, text: bytes | None, outcome: str) -> None:
-        """What was saved is elsewhere, or nothing was. The outcome is what a message says."""
-        self.outcome = outcome
-        if text is not None:
-            self.texts.add(text)
-
-    def __enter__(self) -> PrivateDirectory:
-        return self
-
-    def __exit__(self, _kind: object, fault: BaseException | None, _trace: object) -> None:
-        """Whatever ended the edit, a message says where the text is, or what became of it."""
-        why = describe_failure(fault, self.edited) if fault else self.outcome
-        if not _is_in(self.file, self.texts):
-            raise Refused(STAYS_IN_PLAINTEXT.format(why, self.path)) from None
+    def remove(self, saved: bytes | None) -> str:
+        """Removes each file whose text is elsewhere: that which the edit began with, or what was saved, if it is. Any
+        other has something that somebody typed, so it stays. Returns what a message says of that."""
+        texts = {self.text, b"", saved}
+        if not _is_in(self.file, texts):
+            return STAYS_IN_PLAINTEXT.format(self.path)
         for path in _list_files(self.path):
-            if _is_in(path, self.texts):
+            if _is_in(path, texts):
                 with suppress(OSError):
                     os.unlink(path)
         with suppress(OSError):
             os.rmdir(self.path)
-        if os.path.lexists(self.path):
-            left = ", ".join(escape(os.path.basename(path)) for path in _list_files(self.path))
-            raise Refused(f"{why}; {LEFT.format(self.path, left or 'nothing')}") from None
-        # Most refusals say it themselves.
-        if fault and self.outcome not in why:
-            raise Refused(f"{why}; {self.outcome}") from None
+        if not os.path.lexists(self.path):
+            return ""
+        left = ", ".join(escape(os.path.basename(path)) for path in _list_files(self.path))
+        return LEFT.format(self.path, left or "nothing")
 
 
-def describe_failure(failed: BaseException, path: str) -> str:
-    """Why something failed. Some exceptions have no text, such as Python's own for too little memory."""
-    if isinstance(failed, signals.Stopped):
-        return describe_signal()
-    return refusals.describe_fault(failed, path) or type(failed).__name__
-
-
-def _is_in(path: str, texts: set[bytes]) -> bool:
+def _is_in(path: str, texts: set[bytes | None]) -> bool:
     """Whether a file has one of these texts, or none, such as a link, or is gone. What cannot be read has another."""
     try:
         text = reading.read(path)

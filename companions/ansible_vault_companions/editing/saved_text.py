@@ -11,8 +11,8 @@ from dataclasses import dataclass
 
 from ansible_vault_companions import refusals, signals
 from ansible_vault_companions.editing.drafts import Draft
-from ansible_vault_companions.editing.editor import run_editor
-from ansible_vault_companions.editing.private_directory import PrivateDirectory, describe_failure
+from ansible_vault_companions.editing.editor import describe_signal, run_editor
+from ansible_vault_companions.editing.private_directory import PrivateDirectory
 from ansible_vault_companions.editing.rescue_copies import Copy, save_copy
 from ansible_vault_companions.editing.single_value import A_VAULT
 from ansible_vault_companions.envelopes import conflicts
@@ -30,7 +30,25 @@ UNCHANGED, WRITTEN = "nothing was changed", "what you saved is in the file"
 NO_FILE = "the editor left no file"
 NO_COPY = "an encrypted copy cannot be kept"
 SEVERAL = "its text has several passwords, or may have, and none of them may read all of it"
-RESCUED = "{}; what you saved is encrypted in {}\n--resume opens it, --discard removes it"
+RESCUED = "what you saved is encrypted in {}\n--resume opens it, --discard removes it"
+
+
+@dataclass
+class Outcome:
+    """What came of an edit, as far as it is known."""
+
+    # Why it ended otherwise than planned; empty if it did not.
+    why: str = ""
+    # Where what was saved is, or that nothing was; empty if another part says it, or nobody knows yet.
+    where: str = ""
+    # What was saved, once it is elsewhere than in the private directory.
+    text: bytes | None = None
+    # What is left there.
+    left: str = ""
+
+    def describe(self) -> str:
+        """All of it, for a message."""
+        return "; ".join(filter(None, (self.why, self.where, self.left)))
 
 
 @dataclass
@@ -46,17 +64,32 @@ class Edit:
     # Prints what is to be said of the file.
     say: Callable[[str], None]
 
-    def change_file(self, allows_empty: bool) -> None:
+    def change_file(self, allows_empty: bool) -> int:
         """Runs the editor and puts its text into the file. If nothing was saved, makes an empty vault if that is
-        allowed."""
-        draft, resumed = self.draft, self.resumed
-        with PrivateDirectory(self.path, resumed.text if resumed else draft.plaintext) as folder:
-            is_saved = self._run_editor(folder)
-            # First, since the end of this context may refuse what the editor has left there.
-            if is_saved and resumed:
-                _remove_copy(resumed)
-        if is_saved:
-            return
+        allowed. Returns the exit status."""
+        outcome = Outcome()
+        folder = PrivateDirectory(self.path, self.resumed.text if self.resumed else self.draft.plaintext)
+        try:
+            try:
+                self._run_editor(folder.file, outcome)
+            finally:
+                outcome.left = folder.remove(outcome.text)
+            if outcome.why or outcome.left:
+                self.say(outcome.describe())
+                signals.end_by_signal()
+                return 1
+        # Whatever fails before that is said.
+        except BaseException as failed:
+            if not outcome.describe():
+                raise
+            raise Refused(f"{_describe_failure(failed, self.path)}; {outcome.describe()}") from None
+        if outcome.where == UNCHANGED:
+            self._leave_unchanged(allows_empty)
+        return 0
+
+    def _leave_unchanged(self, allows_empty: bool) -> None:
+        """Leaves the file as it was, or makes an empty vault if there is none and that is allowed."""
+        draft = self.draft
         if conflicts.is_unmerged(draft.plaintext):
             raise Refused(conflicts.STILL)
         if draft.content is not None or not allows_empty:
@@ -67,35 +100,37 @@ class Edit:
         for note in (EMPTY, *notes):
             self.say(note)
 
-    def _run_editor(self, folder: PrivateDirectory) -> bool:
-        """Runs the editor until its text is put back. Returns whether there was anything to change. Whatever else ends
-        the edit leaves the text in the directory until it is elsewhere."""
+    def _run_editor(self, path: str, outcome: Outcome) -> None:
+        """Runs the editor on the private file until its text is stored, or is not to be. Whatever else ends the edit
+        leaves the text in that file."""
         while True:
-            fault = run_editor(folder.file)
-            text = reading.read(folder.file)
+            outcome.why = run_editor(path)
+            text = reading.read(path)
             if text is None or self.draft.is_as_it_was(text):
-                folder.release(text, UNCHANGED)
                 # Even the directory may be gone: logging out removes files in memory.
-                fault = fault or (NO_FILE if text is None else "")
-                if fault:
-                    raise Refused(f"{fault}; {UNCHANGED}")
-                return False
-            if fault:
-                raise self._rescue(text, fault, folder)
+                outcome.why = outcome.why or (NO_FILE if text is None else "")
+                outcome.where, outcome.text = UNCHANGED, text
+                return
+            if outcome.why:
+                self._rescue(text, outcome)
+                return
             try:
                 notes = self._put_back(text)
             except replacing.NotSynced as failed:
-                folder.release(text, str(failed))
-                raise
+                outcome.why, outcome.text = str(failed), text
+                return
             except BaseException as failed:
-                why = describe_failure(failed, self.path)
-                if isinstance(failed, Refused) and _opens_again(self.path, why):
+                outcome.why = _describe_failure(failed, self.path)
+                if isinstance(failed, Refused) and _opens_again(self.path, outcome.why):
                     continue
-                raise self._rescue(text, why, folder) from None
-            folder.release(text, WRITTEN)
+                self._rescue(text, outcome)
+                return
+            outcome.where, outcome.text = WRITTEN, text
             for note in notes:
                 self.say(note)
-            return True
+            if self.resumed:
+                _remove_copy(self.resumed, outcome)
+            return
 
     def _put_back(self, text: bytes) -> list[str]:
         """Encrypts a text into the file, and returns what is to be said of it."""
@@ -107,19 +142,24 @@ class Edit:
             replacing.replace(self.draft.target, content, self.draft.content)
         return notes
 
-    def _rescue(self, text: bytes, why: str, folder: PrivateDirectory) -> Refused:
-        """Keeps a text that is not put back. Returns the exception that says where it is, and how to go on; if no copy
-        is possible, why."""
+    def _rescue(self, text: bytes, outcome: Outcome) -> None:
+        """Keeps a text that is not put back. If no copy is possible, the outcome says why."""
         draft = self.draft
         try:
             if draft.credential is None:
                 raise Refused(SEVERAL)
             copy = save_copy(self.tool, draft.credential, draft.target, draft.plaintext, text, self.resumed)
         except Exception as failed:
-            return Refused(f"{why}; {NO_COPY}: {describe_failure(failed, self.path)}")
-        rescued = RESCUED.format(why, escape(copy))
-        folder.release(text, rescued)
-        return Refused(rescued)
+            outcome.why += f"; {NO_COPY}: {_describe_failure(failed, self.path)}"
+            return
+        outcome.where, outcome.text = RESCUED.format(escape(copy)), text
+
+
+def _describe_failure(failed: BaseException, path: str) -> str:
+    """Why something failed. Some exceptions have no text, such as Python's own for too little memory."""
+    if isinstance(failed, signals.Stopped):
+        return describe_signal()
+    return refusals.describe_fault(failed, path) or type(failed).__name__
 
 
 def _opens_again(path: str, why: str) -> bool:
@@ -132,8 +172,9 @@ def _opens_again(path: str, why: str) -> bool:
         return False
 
 
-def _remove_copy(copy: Copy) -> None:
+def _remove_copy(copy: Copy, outcome: Outcome) -> None:
+    """Removes the copy of what is in the file now. If it stays, the outcome says why."""
     try:
         os.unlink(copy.path)
     except OSError as fault:
-        raise Refused(f"{WRITTEN}; its copy stays: {refusals.describe_fault(fault)}") from None
+        outcome.why, outcome.where = f"{WRITTEN}; its copy stays: {refusals.describe_fault(fault)}", ""

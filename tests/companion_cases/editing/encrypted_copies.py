@@ -348,7 +348,9 @@ def test_several_secrets(place: Place, what: str) -> None:
     row = SECRETS[what]
     place.put("vars.yml", row.content)
     words = [*place.by_id("dev", "dev"), *place.by_id(*row.second), *row.words, "vars.yml"]
-    ended(what, edit(place, TYPE_NO_YAML, *words), 1, f"; what you saved is {row.how} in ")
+    done = edit(place, TYPE_NO_YAML, *words)
+    ended(what, done, 1, f"; what you saved is {row.how} in ")
+    assert done.stderr.count("it cannot be read as YAML") == 1, "the reason is said once"
     is_plain = row.how == PLAIN
     plaintexts = [Path(path).read_text() for path in place.left() if path.endswith("/vars.yml")]
     assert len(plaintexts) == (1 if is_plain else 0), "the plaintexts that are left"
