@@ -11,7 +11,7 @@ from ansible_vault_companions.envelopes import conflicts
 from ansible_vault_companions.envelopes.header import MAGIC
 from ansible_vault_companions.envelopes.pointers import Pointer, refuse_pointer
 from ansible_vault_companions.merging.line_merge import MOST_CONFLICTS, OneSideOnly, Versions
-from ansible_vault_companions.merging.value_merge import ValueMerge
+from ansible_vault_companions.merging.value_merge import merge_values
 from ansible_vault_companions.merging.vault_merge import VaultMerge
 from ansible_vault_companions.passwords.labels import Credential
 from ansible_vault_companions.refusals import Refused
@@ -45,7 +45,7 @@ def merge_file(tool: Tool, decrypt: Decrypt, versions: Versions, chosen: Credent
             return MergedFile(_merge_vaults(tool, decrypt, versions, chosen))
         if any(versions.are_vaults):
             raise OneSideOnly(KINDS_DIFFER)
-        return _merge_values(tool, decrypt, versions, chosen)
+        return _merge_file_with_values(tool, decrypt, versions, chosen)
     except Refused as fault:
         advice = TAKE_SIDE if isinstance(fault, (OneSideOnly, Pointer)) else RESOLVE
         return MergedFile(conflicts.join_sides(ours, theirs), NOT_MERGED.format(fault), advice)
@@ -59,11 +59,11 @@ def _merge_vaults(tool: Tool, decrypt: Decrypt, versions: Versions, chosen: Cred
     return vaults.encrypt(tool, vaults.merged_lines.text, credential)
 
 
-def _merge_values(tool: Tool, decrypt: Decrypt, versions: Versions, chosen: Credential | None) -> MergedFile:
+def _merge_file_with_values(tool: Tool, decrypt: Decrypt, versions: Versions, chosen: Credential | None) -> MergedFile:
     if versions.base.startswith(MAGIC) or conflicts.is_unmerged(versions.base):
         # A base that was a vault has no lines for a conflict. One that is a conflict, as in a crossed history, is none.
         versions = versions._replace(base=b"")
-    content, count = ValueMerge(decrypt, versions, chosen).merge(tool)
+    content, count = merge_values(tool, decrypt, versions, chosen)
     if count == 0:
         return MergedFile(content)
     return MergedFile(content, _describe_conflicts(count))

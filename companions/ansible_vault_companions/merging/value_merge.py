@@ -10,7 +10,7 @@ from __future__ import annotations
 import os
 import re
 from collections import Counter, defaultdict
-from collections.abc import Hashable, Iterator
+from collections.abc import Hashable
 from functools import partial
 from typing import NamedTuple
 
@@ -28,7 +28,7 @@ from ansible_vault_companions.merging.line_merge import (
     Versions,
     merge_lines,
 )
-from ansible_vault_companions.merging.result_credential import choose_value_credential
+from ansible_vault_companions.merging.result_credential import VersionCredentials, choose_value_credential
 from ansible_vault_companions.parallel import work_at_once
 from ansible_vault_companions.passwords.labels import Credential
 from ansible_vault_companions.refusals import Refused
@@ -40,137 +40,206 @@ NEW_VALUE = "git can merge its lines, but the result has a value that neither si
 SIDE_BY_MARKER = {conflicts.OURS_MARKER: OURS, conflicts.BASE_MARKER: BASE, conflicts.THEIRS_MARKER: THEIRS}
 
 
+class Plaintext(NamedTuple):
+    """The text of an envelope, its credential, and the one that it has in the result."""
+
+    text: bytes
+    credential: Credential
+    new_credential: Credential
+
+
+class Piece(NamedTuple):
+    """Bytes of the result, and the envelope in them, which is empty if there is none."""
+
+    data: bytes
+    envelope: bytes = b""
+
+
 class Use(NamedTuple):
-    """A value of a version, and its bytes there, with those before the envelope."""
+    """An envelope of a version, and the token in its place."""
 
     value: Node
-    scalar: bytes
+    token: bytes
+    # Where the token begins, the bytes between there and the envelope, and all that the token stands for.
+    start: int
+    head: bytes
+    piece: Piece
+    # None if all versions have the envelope, or no password decrypts it.
+    plaintext: Plaintext | None
+
+    @property
+    def is_settled(self) -> bool:
+        """Whether the result can have it as it is."""
+        return self.plaintext is None or self.plaintext.credential == self.plaintext.new_credential
 
 
-class ValueMerge:
-    """Three versions of a file, and what their envelopes mean."""
+class Cursor:
+    """Goes through the uses of a token in a version, and stays at the last one."""
 
-    def __init__(self, decrypt: Decrypt, versions: Versions, chosen: Credential | None) -> None:
-        self.parsed = {side: parse_envelopes(data) for side, data in zip(SIDES, versions)}
-        self.values = {side: _list_values(parsed) for side, parsed in self.parsed.items()}
-        texts = [{value.text for value in values} for values in self.values.values()]
-        # Those that not all versions have, if a password decrypts them that their labels allow.
-        differing = sorted(set[bytes]().union(*texts).difference(set.intersection(*texts)))
-        results = work_at_once(partial(_try_to_decrypt, decrypt), differing)
-        self.decrypted = {each.envelope: each for each in results if each}
-        self.credentials = self._choose_credentials(chosen)
-        self.mark = b"ansible-vault-%s" % os.urandom(12).hex().encode()
-        self.numbers: dict[Hashable, int] = {}
-        # The values of each side with a token, in order, until all but the last are used.
-        self.uses: dict[tuple[str, int], list[Use]] = defaultdict(list)
-        self.envelopes: list[bytes] = []
+    def __init__(self) -> None:
+        self.uses: list[Use] = []
+        self.place = 0
 
-    def merge(self, tool: Tool) -> MergedLines:
-        """The merged file."""
-        text, count = merge_lines(Versions(*(self._shadow(side) for side in SIDES)))
-        if count and any(conflicts.count_markers(parsed.data) for parsed in self.parsed.values()):
-            raise OneSideOnly(HAS_MARKERS)
-        # Lines that keep values apart; at the end of a file without a last line end, with the line end above them.
-        line = rb"%s/[^\n]*" % self.mark
-        text = re.sub(rb"(?m)^%s\n|\r?\n(?:%s\n)*%s\Z" % (line, line, line), b"", text)
-        parts = conflicts.split_parts(text, count > 0)
-        pieces = [piece for kind, part in parts for piece in self._restore(part, SIDE_BY_MARKER.get(kind, ""))]
-        new = iter(work_at_once(partial(self._encrypt, tool), [piece for piece in pieces if isinstance(piece, Use)]))
-        content = b"".join(next(new) if isinstance(piece, Use) else piece for piece in pieces)
-        self._check(content, count > 0)
-        return MergedLines(content, count)
+    def list_rest(self) -> list[bytes]:
+        """The envelopes from here on."""
+        return [use.value.text for use in self.uses[self.place :]]
 
-    def _choose_credentials(self, chosen: Credential | None) -> dict[str, Credential | None]:
-        """The credential of the result for the values with each label; None if each keeps its own."""
-        credentials: dict[str, dict[str | None, set[Credential | None]]] = {side: defaultdict(set) for side in SIDES}
-        for side, values in self.values.items():
-            for value in values:
-                found = self.decrypted.get(value.text)
-                credentials[side][value.label].add(found.require_credential() if found else None)
-        labels = {each.label for each in self.decrypted.values()}
-        ours, base, theirs = (credentials[side] for side in SIDES)
-        return {
-            label: choose_value_credential(label, ours[label], base[label], theirs[label], chosen) for label in labels
-        }
-
-    def _find_credential(self, found: Decryption) -> Credential:
-        return self.credentials[found.label] or found.require_credential()
-
-    def _shadow(self, side: str) -> bytes:
-        """The data of a side, with tokens in place of its envelopes."""
-        data = self.parsed[side].data
-        return apply_replacements(data, [self._make_token(side, data, value) for value in self.values[side]])
-
-    def _make_token(self, side: str, data: bytes, value: Node) -> Replacement:
-        begin = value.envelope_start if value.style == STRAY else value.scalar_start
-        found = self.decrypted.get(value.text)
-        meaning = (self._find_credential(found), found.plaintext) if found else value.text
-        identity = (meaning, value.style, data[begin : value.envelope_start], value.margin, value.ending)
-        number = self.numbers.setdefault(identity, len(self.numbers))
-        self.uses[side, number].append(Use(value, data[begin : value.end]))
-        token = b"%s-%d" % (self.mark, number)
-        if value.style in (LITERAL, STRAY):
-            # A line of its own below it keeps the lines of two values apart.
-            token += b"%s%s/%s" % (value.ending, self.mark, value.name.encode().hex().encode())
-        return Replacement(begin, value.end, token)
-
-    def _restore(self, part: bytes, side: str) -> Iterator[bytes | Use]:
-        """The lines of a side of a conflict, or of the merged text if no side is given, with envelopes in place of
-        tokens, or values that are to be encrypted."""
-        pieces = re.split(rb"%s-(\d+)" % self.mark, part)
-        for number, piece in enumerate(pieces):
-            yield self._choose(int(piece), side) if number % 2 else piece
-
-    def _choose(self, number: int, side: str) -> bytes | Use:
-        """The bytes in place of a token: as the side has them, or else that which changed them."""
-        ours, base, theirs = (self.uses[each, number] for each in SIDES)
-        is_same = [use.value.text for use in ours] == [use.value.text for use in base]
-        order = [self.uses[side, number]] if side else [theirs, ours, base] if is_same else [ours, theirs, base]
-        candidates = [uses[0] for uses in order if uses]
-        for uses in order:
-            del uses[: len(uses) > 1]
-        # Outside of a conflict, the one under the credential of the result counts.
-        use = next((use for use in candidates if side or self._has_credential(use)), None)
-        if use:
-            self.envelopes.append(use.value.text)
-            return use.scalar
-        return candidates[0]
-
-    def _encrypt(self, tool: Tool, use: Use) -> bytes:
-        """The bytes of a value under the credential of the result. Copies stay copies, and other envelopes with the
-        same text differ."""
-        value, scalar = use
-        found = self.decrypted[value.text]
-        envelope = tool.encrypt_again(value.text, found.plaintext, self._find_credential(found))
-        self.envelopes.append(envelope)
-        head = scalar[: value.envelope_start - (value.envelope_start if value.style == STRAY else value.scalar_start)]
-        return head + replace_envelope(value, envelope).text
-
-    def _has_credential(self, use: Use) -> bool:
-        """Whether a value is under the credential of the result."""
-        found = self.decrypted.get(use.value.text)
-        return found is None or found.require_credential() == self._find_credential(found)
-
-    def _check(self, content: bytes, has_conflict: bool) -> None:
-        """Refuses a result that is no YAML though both sides are, or that has other envelopes than these."""
-        sides = conflicts.split_sides(content).values() if has_conflict else [content]
-        parsed = [parse_envelopes(side) for side in sides]
-        if not has_conflict and parsed[0].fault and not any(self.parsed[side].fault for side in (OURS, THEIRS)):
-            raise Refused(MERGED_NOT_YAML.format(parsed[0].fault))
-        found = Counter(value.text.strip() for each in parsed for value in _list_values(each))
-        wanted = Counter(envelope.strip() for envelope in self.envelopes)
-        if found.keys() != wanted.keys() or not has_conflict and found != wanted:
-            raise Refused(NEW_VALUE)
+    def take_use(self) -> Use:
+        use = self.uses[self.place]
+        self.place = min(self.place + 1, len(self.uses) - 1)
+        return use
 
 
-def _list_values(parsed: ParsedText) -> list[Node]:
-    return [value for value in parsed.envelopes if value.style != LOOSE]
+def merge_values(tool: Tool, decrypt: Decrypt, versions: Versions, chosen: Credential | None) -> MergedLines:
+    """The merged file, and how many conflicts it has."""
+    parsed = {side: _parse_version(data) for side, data in zip(SIDES, versions)}
+    plaintexts = _find_plaintexts(decrypt, parsed, chosen)
+    mark = b"ansible-vault-%s" % os.urandom(12).hex().encode()
+    uses = _list_uses(parsed, plaintexts, mark)
+    text, count = merge_lines(Versions(*(_put_tokens(parsed[side].data, uses[side], mark) for side in SIDES)))
+    if count and any(conflicts.count_markers(data) for data in versions):
+        raise OneSideOnly(HAS_MARKERS)
+    restored = _restore_uses(_drop_separators(text, mark), count > 0, uses, mark)
+    new = iter(work_at_once(partial(_encrypt_use, tool), [each for each in restored if isinstance(each, Use)]))
+    pieces = [next(new) if isinstance(each, Use) else each for each in restored]
+    content = b"".join(piece.data for piece in pieces)
+    _check_result(content, count > 0, parsed, [piece.envelope for piece in pieces if piece.envelope])
+    return MergedLines(content, count)
 
 
-def _try_to_decrypt(decrypt: Decrypt, text: bytes) -> Decryption | None:
+def _parse_version(data: bytes) -> ParsedText:
+    """A text with those of its envelopes that can be replaced."""
+    parsed = parse_envelopes(data)
+    return parsed._replace(values=[value for value in parsed.envelopes if value.style != LOOSE])
+
+
+def _find_plaintexts(
+    decrypt: Decrypt, parsed: dict[str, ParsedText], chosen: Credential | None
+) -> dict[bytes, Plaintext]:
+    """The plaintexts of the envelopes that not all versions have, if a password decrypts them that their labels
+    allow."""
+    texts = [{value.text for value in version.values} for version in parsed.values()]
+    differing = sorted(set[bytes]().union(*texts).difference(set.intersection(*texts)))
+    decrypted = [each for each in work_at_once(partial(_try_to_decrypt, decrypt), differing) if each]
+    credentials = {each.envelope: each.require_credential() for each in decrypted}
+    new = _choose_credentials(parsed, credentials, chosen)
+    plaintexts = {}
+    for each in decrypted:
+        credential = credentials[each.envelope]
+        plaintexts[each.envelope] = Plaintext(each.plaintext, credential, new[credential])
+    return plaintexts
+
+
+def _try_to_decrypt(decrypt: Decrypt, envelope: bytes) -> Decryption | None:
+    """The plaintext of an envelope; None if no password decrypts it that may encrypt it again."""
     try:
-        decrypted = decrypt(text)
+        decrypted = decrypt(envelope)
         decrypted.require_credential()
     except Refused:
         return None
     return decrypted
+
+
+def _choose_credentials(
+    parsed: dict[str, ParsedText], credentials: dict[bytes, Credential], chosen: Credential | None
+) -> dict[Credential, Credential]:
+    """The credential of the result for each credential of these envelopes, which keep it if the sides do not agree."""
+    new = {}
+    for credential in {*credentials.values()}:
+        ours, base, theirs = (_list_credentials(parsed[side], credential.label, credentials) for side in SIDES)
+        new[credential] = choose_value_credential(credential.label, ours, base, theirs, chosen) or credential
+    return new
+
+
+def _list_credentials(version: ParsedText, label: str, credentials: dict[bytes, Credential]) -> VersionCredentials:
+    """The credentials of a version's values with a label."""
+    return {credentials.get(value.text) for value in version.values if value.label == label}
+
+
+def _list_uses(parsed: dict[str, ParsedText], plaintexts: dict[bytes, Plaintext], mark: bytes) -> dict[str, list[Use]]:
+    """The uses in each version. Those that mean the same and are laid out alike have the same token."""
+    tokens: dict[Hashable, bytes] = {}
+    uses: dict[str, list[Use]] = {side: [] for side in SIDES}
+    for side, version in parsed.items():
+        for value in version.values:
+            start = value.envelope_start if value.style == STRAY else value.scalar_start
+            head = version.data[start : value.envelope_start]
+            plaintext = plaintexts.get(value.text)
+            meaning = (plaintext.new_credential, plaintext.text) if plaintext else value.text
+            identity = (meaning, value.style, head, value.margin, value.ending)
+            token = tokens.setdefault(identity, b"%s-%d" % (mark, len(tokens)))
+            piece = Piece(version.data[start : value.end], value.text)
+            uses[side].append(Use(value, token, start, head, piece, plaintext))
+    return uses
+
+
+def _put_tokens(data: bytes, uses: list[Use], mark: bytes) -> bytes:
+    """The data of a version, with tokens in place of its envelopes."""
+    changes = []
+    for use in uses:
+        value, text = use.value, use.token
+        if value.style in (LITERAL, STRAY):
+            # A line of its own below it keeps the lines of two values apart.
+            text += b"%s%s/%s" % (value.ending, mark, value.name.encode().hex().encode())
+        changes.append(Replacement(use.start, value.end, text))
+    return apply_replacements(data, changes)
+
+
+def _drop_separators(text: bytes, mark: bytes) -> bytes:
+    """The merged text without the lines that keep values apart; at the end of a file without a last line end, with the
+    line end above them."""
+    line = rb"%s/[^\n]*" % mark
+    return re.sub(rb"(?m)^%s\n|\r?\n(?:%s\n)*%s\Z" % (line, line, line), b"", text)
+
+
+def _restore_uses(text: bytes, is_unmerged: bool, uses: dict[str, list[Use]], mark: bytes) -> list[Piece | Use]:
+    """The merged text in pieces, with envelopes in place of tokens, or uses that are to be encrypted."""
+    cursors: dict[bytes, dict[str, Cursor]] = defaultdict(lambda: {side: Cursor() for side in SIDES})
+    for side in SIDES:
+        for use in uses[side]:
+            cursors[use.token][side].uses.append(use)
+    restored: list[Piece | Use] = []
+    for kind, part in conflicts.split_parts(text, is_unmerged):
+        for word in re.split(rb"(%s-\d+)" % mark, part):
+            if word not in cursors:
+                restored.append(Piece(word))
+            elif kind in SIDE_BY_MARKER:
+                # A side of a conflict has its own.
+                restored.append(cursors[word][SIDE_BY_MARKER[kind]].take_use().piece)
+            else:
+                restored.append(_choose_use(cursors[word]))
+    return restored
+
+
+def _choose_use(cursors: dict[str, Cursor]) -> Piece | Use:
+    """What a token outside of conflicts stands for, where every version goes on to its next use.
+
+    That is the use of ours if it has other envelopes than the base from here on, and else that of theirs. If that is
+    not under the credential of the result, another version's is taken that is.
+    """
+    is_ours_changed = cursors[OURS].list_rest() != cursors[BASE].list_rest()
+    order = (OURS, THEIRS, BASE) if is_ours_changed else (THEIRS, OURS, BASE)
+    uses = [cursors[side].take_use() for side in order if cursors[side].uses]
+    for use in uses:
+        if use.is_settled:
+            return use.piece
+    return uses[0]
+
+
+def _encrypt_use(tool: Tool, use: Use) -> Piece:
+    """It under the credential of the result. Copies stay copies, and other envelopes with the same text differ."""
+    assert use.plaintext
+    envelope = tool.encrypt_again(use.value.text, use.plaintext.text, use.plaintext.new_credential)
+    return Piece(use.head + replace_envelope(use.value, envelope).text, envelope)
+
+
+def _check_result(content: bytes, has_conflict: bool, parsed: dict[str, ParsedText], envelopes: list[bytes]) -> None:
+    """Refuses a result that is no YAML though both sides are, or that has other envelopes than these."""
+    texts = conflicts.split_sides(content).values() if has_conflict else [content]
+    results = [_parse_version(text) for text in texts]
+    if not has_conflict and results[0].fault and not any(parsed[side].fault for side in (OURS, THEIRS)):
+        raise Refused(MERGED_NOT_YAML.format(results[0].fault))
+    found = Counter(value.text.strip() for result in results for value in result.values)
+    wanted = Counter(envelope.strip() for envelope in envelopes)
+    if found.keys() != wanted.keys() or not has_conflict and found != wanted:
+        raise Refused(NEW_VALUE)
