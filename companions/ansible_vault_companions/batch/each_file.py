@@ -163,9 +163,9 @@ class Runner:
 
     def report_missing(self, labels: Collection[str], others: str = "") -> None:
         """Names each of these labels that no envelope has, as a failure, and says this of those with others."""
-        about = others if self.total.others else ""
+        others = others if self.total.others else ""
         missing = sorted(set(labels) - self.total.labels)
-        report = Report([Entry(FAILED, LABEL_NOT_FOUND.format(escape(label), about), label=label) for label in missing])
+        report = Report([Entry(FAILED, LABEL_NOT_FOUND.format(escape(label), others), label=label) for label in missing])
         self.total.add(report)
         self._print(report.entries)
 

@@ -39,6 +39,6 @@ def _list_files(setting: str) -> list[str]:
 def _identify_file(path: str, folder: str = "") -> tuple[int, int] | None:
     """Which file a path leads to, however it is written; None if it leads to none."""
     with suppress(Refused, OSError):
-        about = os.stat(expand_path(path, folder))
-        return about.st_dev, about.st_ino
+        status = os.stat(expand_path(path, folder))
+        return status.st_dev, status.st_ino
     return None

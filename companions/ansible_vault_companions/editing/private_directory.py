@@ -30,13 +30,13 @@ def require_own_folder(path: str) -> None:
     """Refuses a directory, by its real path, unless it is the user's own, and nobody else can put another one in its
     place: each directory above it belongs to the user or to root, and is closed to other writers, or sticky."""
     for above in reversed(PurePath(path).parents):
-        about = os.lstat(above)
-        if about.st_uid not in (os.geteuid(), 0):
+        status = os.lstat(above)
+        if status.st_uid not in (os.geteuid(), 0):
             raise PermissionError(errno.EPERM, f"{escape(str(above))} belongs to another user")
-        if about.st_mode & (stat.S_IWGRP | stat.S_IWOTH) and not about.st_mode & stat.S_ISVTX:
+        if status.st_mode & (stat.S_IWGRP | stat.S_IWOTH) and not status.st_mode & stat.S_ISVTX:
             raise PermissionError(errno.EPERM, f"others can write to {escape(str(above))}")
-    about = os.lstat(path)
-    if about.st_uid != os.geteuid() or about.st_mode & 0o077:
+    status = os.lstat(path)
+    if status.st_uid != os.geteuid() or status.st_mode & 0o077:
         raise PermissionError(errno.EPERM, f"{escape(path)} is not a directory that only you can open")
 
 

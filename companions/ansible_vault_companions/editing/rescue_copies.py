@@ -108,10 +108,10 @@ def save_copy(tool: Tool, credential: Credential, target: str, base: bytes, text
 def _require_own(path: str) -> None:
     """Refuses what is no directory of the user, such as a link, unless there is nothing."""
     try:
-        about = os.lstat(path)
+        status = os.lstat(path)
     except FileNotFoundError:
         return
-    if not stat.S_ISDIR(about.st_mode) or about.st_uid != os.geteuid():
+    if not stat.S_ISDIR(status.st_mode) or status.st_uid != os.geteuid():
         raise PermissionError(errno.EPERM, f"{escape(path)} is no directory of yours")
 
 

@@ -80,10 +80,10 @@ def _require_real(target: str) -> None:
 
 def _is_at(target: str, old: FileIO | None) -> bool:
     try:
-        about = os.lstat(target)
+        status = os.lstat(target)
     except FileNotFoundError:
         return old is None
-    return old is not None and os.path.samestat(about, os.fstat(old.fileno()))
+    return old is not None and os.path.samestat(status, os.fstat(old.fileno()))
 
 
 def write_new(

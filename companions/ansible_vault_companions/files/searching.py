@@ -52,8 +52,8 @@ class FoundFile(NamedTuple):
 
 def add_paths(parser: argparse.ArgumentParser) -> None:
     """Adds the paths to search, and the option that leaves out files."""
-    about = "skip files and directories whose name or path matches PATTERN; may be repeated"
-    parser.add_argument("--exclude", action="append", default=[], metavar="PATTERN", help=about)
+    text = "skip files and directories whose name or path matches PATTERN; may be repeated"
+    parser.add_argument("--exclude", action="append", default=[], metavar="PATTERN", help=text)
     parser.add_argument("paths", metavar="PATH", nargs="+", help="a file or directory to search")
 
 

@@ -124,13 +124,13 @@ def _list_files_of(commits: Iterable[str]) -> dict[str, list[File]]:
 
 def _list_files(*words: str) -> Iterator[File]:
     fields = iter(list_records(*words))
-    for about in fields:
-        yield from _read_file(about, next(fields))
+    for metadata in fields:
+        yield from _read_file(metadata, next(fields))
 
 
-def _read_file(about: bytes, name: bytes) -> list[File]:
+def _read_file(metadata: bytes, name: bytes) -> list[File]:
     """The file of an entry, unless it was and is none."""
-    old_mode, mode, before, blob, status = about[1:].decode().split()
+    old_mode, mode, before, blob, status = metadata[1:].decode().split()
     if status == "U":
         path = os.fsdecode(name)
         to_add = f"`git add -- {make_pathspec(path, is_below_top=True)}`"
@@ -143,8 +143,8 @@ def _read_entries(entries: Iterable[bytes]) -> list[File]:
     """The files that ls-tree or ls-files prints."""
     files = []
     for entry in entries:
-        about, _, name = entry.partition(b"\t")
-        mode, *_, blob = about.decode().removesuffix(" 0").split()
+        metadata, _, name = entry.partition(b"\t")
+        mode, *_, blob = metadata.decode().removesuffix(" 0").split()
         if mode in FILE_MODES:
             files.append(File(name, blob))
     return files
