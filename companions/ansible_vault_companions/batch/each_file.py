@@ -165,7 +165,9 @@ class Runner:
         """Names each of these labels that no envelope has, as a failure, and says this of those with others."""
         others = others if self.total.others else ""
         missing = sorted(set(labels) - self.total.labels)
-        report = Report([Entry(FAILED, LABEL_NOT_FOUND.format(escape(label), others), label=label) for label in missing])
+        report = Report(
+            [Entry(FAILED, LABEL_NOT_FOUND.format(escape(label), others), label=label) for label in missing]
+        )
         self.total.add(report)
         self._print(report.entries)
 

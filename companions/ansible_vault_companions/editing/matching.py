@@ -1,7 +1,8 @@
 """Matches the values of a saved text with those that the file had, and so decides which password each one gets.
 
 A value keeps its envelope if its text is at the same keys as before, or has moved. A new text at the keys of a value
-gets that value's password. Anything else is new. If that leaves several passwords to choose from, it is refused.
+gets that value's password; in a list, only if its items are the same, apart from their values. Anything else is new. If
+that leaves several passwords to choose from, it is refused.
 """
 
 from __future__ import annotations
@@ -12,6 +13,7 @@ from typing import Callable, Iterable, NamedTuple, TypeVar
 from ansible_vault_companions.editing.encrypting_password import Choice
 from ansible_vault_companions.envelopes.key_paths import ANY_ITEM, KeyPath
 from ansible_vault_companions.envelopes.node import Node
+from ansible_vault_companions.envelopes.parsed_text import ParsedYaml
 from ansible_vault_companions.passwords.labels import Credential
 from ansible_vault_companions.quoting import escape
 from ansible_vault_companions.tool import Decryption
@@ -52,7 +54,9 @@ def describe_place(value: Node) -> str:
     return f"line {value.line}: {describe_name(value)}"
 
 
-def find_matches(opened: list[DecryptedValue], typed: list[Node], choice: Choice) -> list[Match]:
+def find_matches(
+    opened: list[DecryptedValue], typed: list[Node], choice: Choice, changed_lists: set[KeyPath]
+) -> list[Match]:
     """What each typed value was before, or its credential, in order."""
     kept = _keep({}, opened, typed, lambda value: value.path)
     # An item of a list may be at the place of another. So what has left its list was replaced, if its place was taken.
@@ -60,7 +64,8 @@ def find_matches(opened: list[DecryptedValue], typed: list[Node], choice: Choice
     replaced = _list_gone(opened, kept)
     kept = _keep(kept, opened, typed, lambda _: ())
     texts_gone = {old.text for old in _list_gone(opened, kept)}
-    replacements = _Replacements(opened, replaced, [each for number, each in enumerate(typed) if number not in kept])
+    unknown = [value for number, value in enumerate(typed) if number not in kept]
+    replacements = _Replacements(opened, replaced, unknown, changed_lists)
     matches = []
     for number, value in enumerate(typed):
         if number in kept:
@@ -74,6 +79,24 @@ def find_matches(opened: list[DecryptedValue], typed: list[Node], choice: Choice
             credential = replacements.find_credential(value) or choice.choose_credential(*names)
         matches.append(Match(None, credential))
     return matches
+
+
+def find_changed_lists(shown: list[ParsedYaml], saved: ParsedYaml) -> set[KeyPath]:
+    """The paths of lists whose items are not as in one of the shown texts, apart from their values."""
+    before, after = [_group_items(each) for each in shown], _group_items(saved)
+    paths = {path for items in (*before, after) for path in items}
+    return {path for path in paths if all(items[path] != after[path] for items in before)}
+
+
+def _group_items(parsed: ParsedYaml) -> dict[KeyPath, set[tuple[KeyPath, bytes]]]:
+    """The plaintexts within each list, with their paths."""
+    plaintexts = [node for node in parsed.nodes if not node.is_tagged]
+    return _group((_outermost_list(_list_of(node.path)), (node.path, node.text)) for node in plaintexts)
+
+
+def _outermost_list(group: KeyPath) -> KeyPath:
+    """The path of the list that a value is in, whatever lists are within that; its own path if it is in none."""
+    return group[: group.index(ANY_ITEM)] if ANY_ITEM in group else group
 
 
 def _keep(
@@ -106,18 +129,28 @@ def _list_gone(opened: list[DecryptedValue], kept: dict[int, DecryptedValue]) ->
 class _Replacements:
     """The values that are gone from their places, and those that are unknown there, all together: there may be many."""
 
-    def __init__(self, opened: list[DecryptedValue], replaced: list[DecryptedValue], unknown: list[Node]) -> None:
+    def __init__(
+        self,
+        opened: list[DecryptedValue],
+        replaced: list[DecryptedValue],
+        unknown: list[Node],
+        changed_lists: set[KeyPath],
+    ) -> None:
         # The credentials of what was replaced at each path, and the passwords of all values of each list.
         self.at_path = _group((old.value.path, old.require_credential()) for old in replaced)
         self.in_list = _group((_list_of(old.value.path), old.decrypted.password.content) for old in opened)
-        # The paths of both in each list, and the lists in which these differ.
+        # The paths of both in each list, and the lists in which these or other parts of items differ.
         self.before = _group((_list_of(old.value.path), old.value.path) for old in replaced)
         self.after = _group((_list_of(value.path), value.path) for value in unknown)
-        self.changed = {group for group in self.before if self.before[group] != self.after[group]}
+        self.changed = {
+            group
+            for group in self.before
+            if self.before[group] != self.after[group] or _outermost_list(group) in changed_lists
+        }
 
     def are_unclear(self, value: Node, choice: Choice) -> bool:
-        """Whether a new text may get one of several passwords or labels. If items of its list have come or gone, it may
-        replace any item; if there are more than before, it may also be new."""
+        """Whether a new text may get one of several passwords or labels. If its list has changed, it may replace any
+        item; if there are more than before, it may also be new."""
         group = _list_of(value.path)
         if group in self.changed:
             is_longer = len(self.after[group]) > len(self.before[group])

@@ -10,7 +10,13 @@ from typing import NamedTuple
 
 from ansible_vault_companions.editing.encrypting_password import Choice
 from ansible_vault_companions.editing.lost_tags import find_lost
-from ansible_vault_companions.editing.matching import DecryptedValue, Match, describe_place, find_matches
+from ansible_vault_companions.editing.matching import (
+    DecryptedValue,
+    Match,
+    describe_place,
+    find_changed_lists,
+    find_matches,
+)
 from ansible_vault_companions.editing.typed_tags import check_typed_tags, find_other_tags, refuse_directive
 from ansible_vault_companions.envelopes import conflicts
 from ansible_vault_companions.envelopes.header import MAGIC
@@ -113,8 +119,9 @@ class YamlDraft:
         typed = [value for value in after.nodes if value.is_tagged and not _stays_encrypted(value, closed)]
         for value in typed:
             _require_text(value)
-        check_typed_tags([side.shown for side in self.sides], after)
-        matches = find_matches(self.opened, typed, self.choice)
+        shown = [side.shown for side in self.sides]
+        check_typed_tags(shown, after)
+        matches = find_matches(self.opened, typed, self.choice, find_changed_lists(shown, after))
         envelopes = work_at_once(lambda pair: _seal(tool, *pair), zip(typed, matches))
         changes = [change for pair in zip(typed, matches, envelopes) for change in _write(text, *pair)]
         saved = after.rewrite(changes, dict(zip(typed, envelopes)))

@@ -215,3 +215,41 @@ def test_lists(place: Place, row: ListEdit) -> None:
         assert texts(piece, label) == [text.encode()], f"the secret of {text} is that of its label"
         is_kept = piece.strip() in block(label, text.encode(), label, "")
         assert is_kept == (Item(label, text) in row.items), f"only an unchanged {text} keeps its envelope"
+
+
+# The names of items and their texts, of which the first one has the password dev, and the second one prod. Then those
+# that stand there afterwards, and their labels.
+USERS = [("web", "one"), ("db", "two")]
+NAMED = {
+    "both values changed": ([("web", "one!"), ("db", "two!")], ["dev", "prod"]),
+    "a name changed": ([("api", "one"), ("db", "two")], ["dev", "prod"]),
+    "another order": ([("db", "two"), ("web", "one")], ["prod", "dev"]),
+    "another item in the place of one": ([("api", "new"), ("db", "two")], REFUSED),
+    "one removed, the other one changed, and one added": ([("db", "two!"), ("api", "new")], REFUSED),
+    "another order, and both changed": ([("db", "two!"), ("web", "one!")], REFUSED),
+}
+
+
+@pytest.mark.parametrize("typed, labels", NAMED.values(), ids=NAMED)
+def test_lists_with_names(place: Place, typed: list[tuple[str, str]], labels: list[str]) -> None:
+    """The place of an item identifies it only if the rest of the items is as before. What changes elsewhere does not
+    count."""
+    passwords = dict(zip(dict(USERS), ["dev", "prod"]))
+    items = [
+        b"- name: %s\n  " % name.encode() + block(passwords[name], text.encode(), passwords[name], "pw")
+        for name, text in USERS
+    ]
+    before = b"port: 1\nusers:\n" + b"".join(items)
+    place.put("vars.yml", before)
+    lines = "".join(f"- name: {name}\\n  pw: !vault {text}\\n" for name, text in typed)
+    words = [*place.by_id("dev", "dev"), *place.by_id("prod", "prod"), "--encrypt-vault-id=prod", "vars.yml"]
+    done = edit(place, f"printf 'port: 2\\nusers:\\n{lines}' > \"$1\"", *words)
+    if labels == REFUSED:
+        ended("it is unclear", done, 1, UNCLEAR)
+        assert place.get("vars.yml") == before, "the file stays"
+        return
+    assert done.returncode == 0, done
+    pieces = place.get("vars.yml").split(b"- name: ")[1:]
+    assert [texts(piece.partition(b"!vault |")[2], label) for piece, label in zip(pieces, labels)] == [
+        [text.encode()] for _, text in typed
+    ], "each text has the password of its item"
