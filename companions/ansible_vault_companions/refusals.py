@@ -25,6 +25,15 @@ def describe_fault(fault: BaseException, path: str = "") -> str:
     return f"{escape(os.fsdecode(fault.filename))}: {fault.strerror}"
 
 
+def describe_bug(fault: BaseException) -> str:
+    """The kind of an exception that nobody expects, and where it was raised. Its text may be plaintext."""
+    trace = fault.__traceback__
+    while trace and trace.tb_next:
+        trace = trace.tb_next
+    place = f" in line {trace.tb_lineno} of {os.path.basename(trace.tb_frame.f_code.co_filename)}" if trace else ""
+    return f"{type(fault).__name__}{place}, which is a bug"
+
+
 def name_file(path: str, fault: Exception) -> None:
     """Gives a lack of memory, or too deep a recursion, the file that has led to it. It ends the companion, with what it
     came after."""

@@ -6,8 +6,9 @@ import os
 import sys
 
 
-# These kinds, and not those below them, such as that of a module that is not there.
-SHORTAGES = {MemoryError, RecursionError, RuntimeError, SystemError, ImportError}
+# These kinds, and not those below them, such as that of a module that is not there. Python's import of a module may end
+# in a SystemError if it lacks memory.
+SHORTAGES = {MemoryError, RecursionError, SystemError, ImportError}
 
 
 def prepare_process() -> None:
@@ -26,8 +27,9 @@ def report_failure(kind: type[BaseException], fault: BaseException, _trace: obje
     from ansible_vault_companions import signals
 
     signals.stop_handling()
-    # Such as a lack of memory, or of threads. Python's import of a module may end in a SystemError then.
-    if kind in SHORTAGES or issubclass(kind, OSError):
+    # Such as "can't start new thread".
+    lacks_thread = kind is RuntimeError and str(fault).startswith("can't ")
+    if kind in SHORTAGES or lacks_thread or issubclass(kind, OSError):
         # It may have come while another one was reported, which may say where a text is kept.
         reasons = [str(fault) or "out of memory", str(fault.__context__ or "")]
         sys.stderr.write(f"{os.path.basename(sys.argv[0])}: {'; '.join(filter(None, reasons))}\n")

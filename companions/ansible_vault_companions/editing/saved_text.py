@@ -156,10 +156,12 @@ class Edit:
 
 
 def _describe_failure(failed: BaseException, path: str) -> str:
-    """Why something failed. Some exceptions have no text, such as Python's own for too little memory."""
+    """Why something failed. Python's own exceptions for too little memory have no text."""
     if isinstance(failed, signals.Stopped):
         return describe_signal()
-    return refusals.describe_fault(failed, path) or type(failed).__name__
+    if isinstance(failed, (Refused, OSError, MemoryError, RecursionError)):
+        return refusals.describe_fault(failed, path) or type(failed).__name__
+    return refusals.describe_bug(failed)
 
 
 def _opens_again(path: str, why: str) -> bool:

@@ -100,7 +100,9 @@ STOPS = {
     "an exception of the file": Stop(
         editor=CHANGE, change=UNWRITTEN, why="no memory to write", how=SEALED, stays=STAYS
     ),
-    "an exception of a question": Stop(editor=CHANGE, change=UNASKED, why="no answer", how=PLAIN, stays=STAYS),
+    "an exception of a question": Stop(
+        editor=CHANGE, change=UNASKED, why="ValueError in line ", how=PLAIN, stays=STAYS
+    ),
     "a terminal that is gone": Stop(editor=CHANGE, change=GONE, why="too deep", how=SEALED, stays=STAYS),
     "a full disk": Stop(editor=CHANGE, change=FULL, why="no space", how=SEALED, stays=STAYS),
     "no memory to read it": Stop(editor=CHANGE, change=UNREAD, why="no memory to read", how=PLAIN, stays=STAYS),

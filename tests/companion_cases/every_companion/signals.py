@@ -516,16 +516,17 @@ BUG = """
 from ansible_vault_companions import output
 output.flush_streams = None
 """
-# A kind below one that a lack of memory or of threads may have.
-UNFINISHED = """
+# Of the kind that a lack of threads has, and of one below it.
+FAILING = """
 from ansible_vault_companions import output
 def flush_streams():
-    raise NotImplementedError
+    raise {}
 output.flush_streams = flush_streams
 """
+BUGS = [BUG, FAILING.format('RuntimeError("generator raised StopIteration")'), FAILING.format("NotImplementedError")]
 
 
-@pytest.mark.parametrize("bug", ["", BUG, UNFINISHED])
+@pytest.mark.parametrize("bug", ["", *BUGS])
 def test_at_exit(place: Place, bug: str) -> None:
     prepare_runs(place)
     done = run_changed(place, CHECK, AT_EXIT + bug, [*place.by_file("old"), "a.yml"])
