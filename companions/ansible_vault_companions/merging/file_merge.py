@@ -63,10 +63,10 @@ def _merge_file_with_values(tool: Tool, decrypt: Decrypt, versions: Versions, ch
     if versions.base.startswith(MAGIC) or conflicts.is_unmerged(versions.base):
         # A base that was a vault has no lines for a conflict. One that is a conflict, as in a crossed history, is none.
         versions = versions._replace(base=b"")
-    content, count = merge_values(tool, decrypt, versions, chosen)
-    if count == 0:
-        return MergedFile(content)
-    return MergedFile(content, _describe_conflicts(count))
+    merged = merge_values(tool, decrypt, versions, chosen)
+    if merged.conflicts == 0:
+        return MergedFile(merged.content)
+    return MergedFile(merged.content, "; ".join(filter(None, [_describe_conflicts(merged.conflicts), merged.why])))
 
 
 def _describe_conflicts(count: int) -> str:

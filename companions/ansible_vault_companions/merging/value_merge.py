@@ -3,6 +3,15 @@
 A token stands for each envelope while git merges the lines. It is the same for values that mean the same and are laid
 out alike. One that a password decrypts means its text under the credential that it has in the result. Any other means
 itself.
+
+So each use of a token is right in its place, once it is under the credential of the result. Which of them is taken only
+decides which envelope that is: of a version that has changed them, and in the order that they have there. Here, E1 and
+E2 have the same text:
+
+    base    a: E1, b: E2
+    ours    b: E2           it has other envelopes than the base
+    theirs  a: E1, b: E2
+    merged  b: E2
 """
 
 from __future__ import annotations
@@ -23,7 +32,6 @@ from ansible_vault_companions.merging.line_merge import (
     OURS,
     SIDES,
     THEIRS,
-    MergedLines,
     OneSideOnly,
     Versions,
     merge_lines,
@@ -53,6 +61,7 @@ class Piece(NamedTuple):
 
     data: bytes
     envelope: bytes = b""
+    is_in_conflict: bool = False
 
 
 class Use(NamedTuple):
@@ -90,10 +99,20 @@ class Cursor:
         return use
 
 
-def merge_values(tool: Tool, decrypt: Decrypt, versions: Versions, chosen: Credential | None) -> MergedLines:
-    """The merged file, and how many conflicts it has."""
+class MergedValues(NamedTuple):
+    """The merged file, how many conflicts it has, and why a value in one was not decrypted, if one was not."""
+
+    content: bytes
+    conflicts: int
+    why: str
+
+
+def merge_values(tool: Tool, decrypt: Decrypt, versions: Versions, chosen: Credential | None) -> MergedValues:
     parsed = {side: _parse_version(data) for side, data in zip(SIDES, versions)}
-    plaintexts = _find_plaintexts(decrypt, parsed, chosen)
+    differing = _list_differing(parsed)
+    results = dict(zip(differing, work_at_once(partial(_try_to_decrypt, decrypt), differing)))
+    decrypted = [result for result in results.values() if isinstance(result, Decryption)]
+    plaintexts = _find_plaintexts(decrypted, parsed, chosen)
     mark = b"ansible-vault-%s" % os.urandom(12).hex().encode()
     uses = _list_uses(parsed, plaintexts, mark)
     text, count = merge_lines(Versions(*(_put_tokens(parsed[side].data, uses[side], mark) for side in SIDES)))
@@ -104,7 +123,9 @@ def merge_values(tool: Tool, decrypt: Decrypt, versions: Versions, chosen: Crede
     pieces = [next(new) if isinstance(each, Use) else each for each in restored]
     content = b"".join(piece.data for piece in pieces)
     _check_result(content, count > 0, parsed, [piece.envelope for piece in pieces if piece.envelope])
-    return MergedLines(content, count)
+    faults = [results[piece.envelope] for piece in pieces if piece.is_in_conflict and piece.envelope in results]
+    why = next((str(fault) for fault in faults if isinstance(fault, Refused)), "")
+    return MergedValues(content, count, why)
 
 
 def _parse_version(data: bytes) -> ParsedText:
@@ -113,14 +134,25 @@ def _parse_version(data: bytes) -> ParsedText:
     return parsed._replace(values=[value for value in parsed.envelopes if value.style != LOOSE])
 
 
-def _find_plaintexts(
-    decrypt: Decrypt, parsed: dict[str, ParsedText], chosen: Credential | None
-) -> dict[bytes, Plaintext]:
-    """The plaintexts of the envelopes that not all versions have, if a password decrypts them that their labels
-    allow."""
+def _list_differing(parsed: dict[str, ParsedText]) -> list[bytes]:
+    """The envelopes that not all versions have."""
     texts = [{value.text for value in version.values} for version in parsed.values()]
-    differing = sorted(set[bytes]().union(*texts).difference(set.intersection(*texts)))
-    decrypted = [each for each in work_at_once(partial(_try_to_decrypt, decrypt), differing) if each]
+    return sorted(set[bytes]().union(*texts).difference(set.intersection(*texts)))
+
+
+def _try_to_decrypt(decrypt: Decrypt, envelope: bytes) -> Decryption | Refused:
+    """The plaintext of an envelope, or why there is none: a password has to decrypt it that may encrypt it again."""
+    try:
+        decrypted = decrypt(envelope)
+        decrypted.require_credential()
+    except Refused as fault:
+        return fault
+    return decrypted
+
+
+def _find_plaintexts(
+    decrypted: list[Decryption], parsed: dict[str, ParsedText], chosen: Credential | None
+) -> dict[bytes, Plaintext]:
     credentials = {each.envelope: each.require_credential() for each in decrypted}
     new = _choose_credentials(parsed, credentials, chosen)
     plaintexts = {}
@@ -128,16 +160,6 @@ def _find_plaintexts(
         credential = credentials[each.envelope]
         plaintexts[each.envelope] = Plaintext(each.plaintext, credential, new[credential])
     return plaintexts
-
-
-def _try_to_decrypt(decrypt: Decrypt, envelope: bytes) -> Decryption | None:
-    """The plaintext of an envelope; None if no password decrypts it that may encrypt it again."""
-    try:
-        decrypted = decrypt(envelope)
-        decrypted.require_credential()
-    except Refused:
-        return None
-    return decrypted
 
 
 def _choose_credentials(
@@ -205,7 +227,8 @@ def _restore_uses(text: bytes, is_unmerged: bool, uses: dict[str, list[Use]], ma
                 restored.append(Piece(word))
             elif kind in SIDE_BY_MARKER:
                 # A side of a conflict has its own.
-                restored.append(cursors[word][SIDE_BY_MARKER[kind]].take_use().piece)
+                piece = cursors[word][SIDE_BY_MARKER[kind]].take_use().piece
+                restored.append(piece._replace(is_in_conflict=True))
             else:
                 restored.append(_choose_use(cursors[word]))
     return restored

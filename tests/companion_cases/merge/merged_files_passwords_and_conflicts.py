@@ -171,7 +171,10 @@ def test_any_label(place: Place) -> None:
     vaults = [sealed("dev", text, "prod") for text in (BASE, OURS, THEIRS)]
     # Both sides have changed it to the same text.
     files = {"vault.yml": vaults, "value.yml": [yaml_block(envelope, b"a") for envelope in FALSE_LABEL]}
-    whys = {"vault.yml": "its label is prod, but dev@", "value.yml": "value.yml: 1 conflict; "}
+    whys = {
+        "vault.yml": "its label is prod, but dev@",
+        "value.yml": "value.yml: 1 conflict; its label is prod, but dev@",
+    }
     for name, contents in files.items():
         words = [*secrets, *versions(place, name, *contents)]
         ended("without it", place.run(MERGE, *words), CONFLICT, whys[name])
@@ -179,6 +182,17 @@ def test_any_label(place: Place) -> None:
         silent("with it", place.run(MERGE, "--any-label", *words))
     assert described(place.get("vault.yml")) == (b"$ANSIBLE_VAULT;1.2;AES256;prod", ("dev", BOTH)), "the vault"
     assert described(place.get("value.yml")) == (b"$ANSIBLE_VAULT;1.2;AES256;prod", ("dev", b"b")), "the value"
+
+
+def test_wrong_password(place: Place) -> None:
+    """A conflict of values that no password decrypts says so. One of other lines does not."""
+    a, b, c = (block("new", text, name="a") for text in (b"a", b"b", b"c"))
+    words = versions(place, "values.yml", a, b, c)
+    why = "values.yml: 1 conflict; no secret decrypts this vault (label default; tried "
+    ended("values", place.run(MERGE, *place.by_file("old"), *words), CONFLICT, why)
+    words = versions(place, "lines.yml", b"x: 1\n" + STAYS + a, b"x: 2\n" + STAYS + b, b"x: 3\n" + STAYS + a)
+    done = place.run(MERGE, *place.by_file("old"), *words)
+    ended("lines", done, CONFLICT, f"lines.yml: 1 conflict; {how_to_resolve(':/lines.yml')}\n")
 
 
 class Chosen(NamedTuple):
