@@ -1,4 +1,15 @@
-"""Where passwords come from, and how they are asked for: what the command line and Ansible's settings name."""
+"""Where passwords come from, and how they are asked for: what the command line and Ansible's settings name.
+
+What names a password decides what it may do, here and in the functions of the last column:
+
+                            an option   a setting            only ./ansible.cfg
+    is a script that runs   yes         yes                  if no option names one,   refuse_script
+                                                             and outside repositories
+    encrypts something new  yes         if no option names   as a setting              prefer_options
+                                        one, or by its label
+    encrypts another text   yes         yes                  if no option names one    require_credential
+    is skipped if unusable  no          if another is left   as a setting              read_passwords
+"""
 
 from __future__ import annotations
 
