@@ -49,7 +49,8 @@ class Node(NamedTuple):
     style: str
     # The line of its text, from 1; 0 if it is a whole file.
     line: int
-    # Where its scalar begins, after tag and anchor, and the bytes that another envelope takes the place of.
+    # Where its scalar begins, after tag and anchor, and the bytes that another envelope takes the place of. They
+    # differ only in a literal.
     scalar_start: int
     envelope_start: int
     end: int

@@ -48,4 +48,4 @@ def _make_stray(data: bytes, header: re.Match[bytes], number: int, can_have_line
     margin = lines["margin"]
     text = b"".join(line[len(margin) :] + b"\n" for line in lines[0].splitlines())
     ending = b"\r\n" if b"\r\n" in lines[0] else b"\n"
-    return Node((), STRAY, number, begin, lines.start(), lines.end(), margin, ending, text)
+    return Node((), STRAY, number, lines.start(), lines.start(), lines.end(), margin, ending, text)

@@ -184,7 +184,7 @@ def _list_uses(parsed: dict[str, ParsedText], plaintexts: dict[bytes, Plaintext]
     uses: dict[str, list[Use]] = {side: [] for side in SIDES}
     for side, version in parsed.items():
         for value in version.values:
-            start = value.envelope_start if value.style == STRAY else value.scalar_start
+            start = value.scalar_start
             head = version.data[start : value.envelope_start]
             plaintext = plaintexts.get(value.text)
             meaning = (plaintext.new_credential, plaintext.text) if plaintext else value.text

@@ -294,8 +294,7 @@ def list_composed(data: bytes) -> list[tuple[KeyPath, str]] | None:
 def check_places(data: bytes, values: Iterable[Node]) -> None:
     """Check that each place is within the content, even if it is no YAML."""
     for value in values:
-        is_in_order = 0 <= value.scalar_start <= value.envelope_start <= value.end <= len(data)
-        assert is_in_order or value.style == STRAY, (value, data)
+        assert 0 <= value.scalar_start <= value.envelope_start <= value.end <= len(data), (value, data)
 
 
 def replace_some(random: Random, parsed: ParsedText) -> dict[Node, bytes]:
