@@ -4,7 +4,6 @@ from __future__ import annotations
 
 from ansible_vault_companions.envelopes import conflicts, header
 from ansible_vault_companions.envelopes.header import HEADER
-from ansible_vault_companions.envelopes.node import LOOSE, STRAY
 from ansible_vault_companions.envelopes.parsed_text import ParsedText
 
 NOT_ENCRYPTED = "is not encrypted"
@@ -26,7 +25,7 @@ def find_damage(parsed: ParsedText) -> str:
     if parsed.is_vault:
         return "" if header.is_whole_envelope(parsed.data) else DAMAGED_VAULT
     for value in parsed.values:
-        if value.is_envelope and value.style != LOOSE and not value.is_whole:
+        if value.is_envelope and not value.is_loose and not value.is_whole:
             return DAMAGED_VALUE.format(value.line)
     return ""
 
@@ -44,6 +43,6 @@ def find_unencrypted(parsed: ParsedText) -> str:
     if not parsed.is_vault:
         if parsed.fault and parsed.values:
             return NOT_READ.format(parsed.fault)
-        if not any(value.is_envelope for value in parsed.values if value.style not in (STRAY, LOOSE)):
+        if all(value.is_elsewhere for value in parsed.envelopes):
             return NOT_ENCRYPTED
     return find_tagged(parsed) or find_damage(parsed)

@@ -35,7 +35,7 @@ WITH_DIGITS = re.compile(
 # A header whose line goes on with digits: a space, a comment mark or an escape is in place of the line end.
 JOINED_LINES = re.compile(rb"(?P<header>[^\r\n]{0,300}?)(?:\\[rn]|[ \t#\\]){1,80}[0-9a-fA-F]{16}")
 
-ELSEWHERE = "an envelope within other text; write it as a value (`NAME: !vault |`), or encrypt the whole file"
+WITHIN_TEXT = "an envelope within other text; write it as a value (`NAME: !vault |`), or encrypt the whole file"
 LINES_JOINED = (
     "its lines are joined, since it is not a block; write it as a block (`NAME: !vault |`), or, if the file is to be a "
     "vault, let the file begin with it"
@@ -46,6 +46,7 @@ class Node(NamedTuple):
     """An envelope, a scalar that is tagged as one, or, if all are asked for, any node."""
 
     path: KeyPath
+    # How it is laid out: PyYAML's style of a scalar, or another of those above.
     style: str
     # The line of its text, from 1; 0 if it is a whole file.
     line: int
@@ -103,14 +104,29 @@ class Node(NamedTuple):
     def is_whole(self) -> bool:
         return is_whole_envelope(self.text)
 
+    @property
+    def is_text(self) -> bool:
+        """Whether it is a text, which can be encrypted, and no list, mapping or alias."""
+        return self.style not in (NO_SCALAR, ALIAS)
+
+    @property
+    def is_elsewhere(self) -> bool:
+        """Whether it is neither a whole file nor a value in YAML. It may be an example, so it makes no file encrypted."""
+        return self.style in (STRAY, LOOSE)
+
+    @property
+    def is_loose(self) -> bool:
+        """Whether only its header is known, as within other text: it can be neither read nor judged nor replaced."""
+        return self.style == LOOSE
+
     def describe_place(self, path: str) -> str:
         """The path, with the line number if it is not the whole file, for a message."""
         return f"{escape(path)}:{self.line}" if self.line else escape(path)
 
     def require_readable(self) -> bytes:
         """What ansible-vault reads."""
-        if self.style == LOOSE:
-            raise Refused(ELSEWHERE)
+        if self.is_loose:
+            raise Refused(WITHIN_TEXT)
         if not self.is_envelope:
             raise Refused("it has the tag `!vault` but is plaintext")
         if JOINED_LINES.match(self.text):

@@ -25,7 +25,7 @@ from typing import NamedTuple
 
 from ansible_vault_companions.envelopes import conflicts
 from ansible_vault_companions.envelopes.layout import Replacement, apply_replacements, replace_envelope
-from ansible_vault_companions.envelopes.node import LITERAL, LOOSE, STRAY, Node
+from ansible_vault_companions.envelopes.node import LITERAL, STRAY, Node
 from ansible_vault_companions.envelopes.parsed_text import ParsedText, parse_envelopes
 from ansible_vault_companions.merging.line_merge import (
     BASE,
@@ -131,7 +131,7 @@ def merge_values(tool: Tool, decrypt: Decrypt, versions: Versions, chosen: Crede
 def _parse_version(data: bytes) -> ParsedText:
     """A text with those of its envelopes that can be replaced."""
     parsed = parse_envelopes(data)
-    return parsed._replace(values=[value for value in parsed.envelopes if value.style != LOOSE])
+    return parsed._replace(values=[value for value in parsed.envelopes if not value.is_loose])
 
 
 def _list_differing(parsed: dict[str, ParsedText]) -> list[bytes]:

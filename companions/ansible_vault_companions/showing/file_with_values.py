@@ -7,7 +7,7 @@ from functools import partial
 from ansible_vault_companions.envelopes import conflicts, detection
 from ansible_vault_companions.envelopes.header import MAGIC
 from ansible_vault_companions.envelopes.layout import Replacement, apply_replacements, put_plaintext
-from ansible_vault_companions.envelopes.node import ALIAS, LOOSE, NO_SCALAR, STRAY, Node
+from ansible_vault_companions.envelopes.node import Node
 from ansible_vault_companions.envelopes.parsed_text import (
     NO_SCALAR_THERE,
     VALUE_NOT_ENCRYPTED,
@@ -56,7 +56,7 @@ def _choose_first_line(parsed: ParsedText) -> bytes:
 
 def _is_encrypted(value: Node) -> bool:
     """Whether the first line counts it. A comment may have the beginning of an envelope."""
-    return value.style not in (STRAY, LOOSE) or value.is_whole
+    return not value.is_elsewhere or value.is_whole
 
 
 def _show_values(name: str, parsed: ParsedText, path: str, decrypt: Decrypt) -> bytes:
@@ -90,6 +90,6 @@ def show_value(data: bytes, key_path: str, decrypt: Decrypt) -> bytes:
         return decrypt(value.require_readable()).plaintext
     if not is_vault:
         raise Refused(VALUE_NOT_ENCRYPTED.format(escape(key_path)))
-    if value.style in (NO_SCALAR, ALIAS):
+    if not value.is_text:
         raise Refused(NO_SCALAR_THERE.format(escape(key_path)))
     return value.text

@@ -17,7 +17,7 @@ from ansible_vault_companions.envelopes import header
 from ansible_vault_companions.envelopes.header import LINE_END
 from ansible_vault_companions.envelopes.key_paths import KeyPath
 from ansible_vault_companions.envelopes.layout import apply_replacements, put_plaintext
-from ansible_vault_companions.envelopes.node import LOOSE, STRAY, TAGS, Node
+from ansible_vault_companions.envelopes.node import TAGS, Node
 from ansible_vault_companions.envelopes.parsed_text import ParsedText, parse_envelopes, parse_nodes
 from ansible_vault_companions.refusals import Refused
 from companion_cases import BODY, CHECK, ROTATE, Place, block, ended, lines_of, sealed, summary, to_new
@@ -309,7 +309,7 @@ def check_replaced(data: bytes, parsed: ParsedText, new: dict[Node, bytes]) -> N
     assert {*LINE_END.findall(after)} <= {*LINE_END.findall(data)}, (data, after)
     wanted = []
     for value in parsed.values:
-        if value.style not in (STRAY, LOOSE):
+        if not value.is_elsewhere:
             wanted.append(text_at(value.path, new.get(value, value.text).decode()))
     assert list_composed(after) == wanted, (data, after)
 
@@ -326,7 +326,7 @@ def test_random_yaml(monkeypatch: pytest.MonkeyPatch, pytestconfig: pytest.Confi
         if wanted is None:
             continue
         parsed = parse_envelopes(data)
-        values = [value for value in parsed.values if value.style not in (STRAY, LOOSE)]
+        values = [value for value in parsed.values if not value.is_elsewhere]
         assert [text_at(value.path, value.text.decode()) for value in values] == wanted, data
         new = replace_some(random, parsed)
         check_replaced(data, parsed, new)
