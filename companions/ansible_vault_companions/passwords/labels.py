@@ -90,11 +90,12 @@ def prefer_options(passwords: Iterable[Password]) -> list[Password]:
 
 
 def order_to_try(passwords: Iterable[Password], label: str | None, policy: Policy) -> list[Password]:
-    """The passwords that may be tried on an envelope with this label. Those with the same label come first."""
+    """The passwords that may be tried on an envelope with this label. Those with the same label come first. What has
+    none is no envelope, as the tool says with any of them."""
     usable = [password for password in passwords if not password.fault]
     same = [password for password in usable if password.label == label]
     others = [password for password in usable if password.label != label]
-    return same if policy.requires_match else same + others
+    return same if policy.requires_match and label is not None else same + others
 
 
 def list_with_label(passwords: Iterable[Password], label: str) -> list[Password]:

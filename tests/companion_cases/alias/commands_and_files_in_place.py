@@ -130,6 +130,11 @@ REFUSED = [
     # A single file is named, too.
     Refusal(line=f"view {OLD} new.yml", status=1, part=f"{WITH}: new.yml: no secret decrypts this vault (label "),
     Refusal(line=f"view {OLD} plain.yml", status=1, part=f"{WITH}: plain.yml: input is not vault encrypted data"),
+    Refusal(
+        line=f"view --require-id-match {OLD} plain.yml",
+        status=1,
+        part=f"{WITH}: plain.yml: input is not vault encrypted data",
+    ),
     Refusal(line=f"decrypt {OLD} --output - plain.yml", status=1, part=f"{WITH}: plain.yml: input is not vault "),
     Refusal(line=f"encrypt {OLD} --output - a.yml", status=1, part=f"{WITH}: a.yml: the plaintext is already vault "),
     Refusal(line=f"create {OLD} a.yml", status=1, part="a.yml exists already; use `edit`"),
