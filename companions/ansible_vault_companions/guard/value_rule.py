@@ -1,12 +1,4 @@
-"""A value that was encrypted is not in plaintext at its key: in its file, or in any file if it is gone from all.
-
-It is decrypted if there are fewer encrypted values at a place, and more plaintexts. A list item that is not known may
-be at any place:
-
-    before  tokens: [E1, x]        a value at ("tokens", 0), and a text at ("tokens", 1)
-    now     tokens: [abc, y, z]    three texts at ("tokens", UNKNOWN_ITEM): E1 is decrypted
-    now     tokens: [E2, y, z]     two texts and a value there: E2 may be at ("tokens", 0), so none is decrypted
-"""
+"""A value that was encrypted is not in plaintext at its key: in its file, or in any file if it is gone from all."""
 
 from __future__ import annotations
 
@@ -36,21 +28,40 @@ def check_file(evidence: Evidence, file: File) -> Finding | None:
     if not before.has_value and not (evidence.removed_values and may_have_variables(file.name)):
         return None
     counts = compare_texts(evidence.known.read_texts(file.before), evidence.known.read_texts(file.blob))
-    places = {*_find_in_file(*counts), *_find_elsewhere(evidence.removed_values, *counts)}
+    doubled = _find_doubled_values(*counts)
+    replaced = _find_replaced_values(*counts, doubled)
+    places = {*doubled, *replaced, *_find_elsewhere(evidence.removed_values, *counts)}
     if not places:
         return None
     listed = ", ".join(sorted(escape(_write_place(place)) for place in places))
     return Finding(NOW_PLAIN.format(listed, "was" if len(places) == 1 else "were", evidence.since), REMEDY)
 
 
-def _find_in_file(before: Counts, now: Counts) -> Iterator[Place]:
-    """The places of values of which there are fewer, with more plaintexts at, above or below them; and those of items
-    that are all known, or of none, that have a plaintext, too."""
+def _find_doubled_values(before: Counts, now: Counts) -> set[Place]:
+    """The places of values with more plaintexts, even if there are as many values:
+
+        before  {pw: E1}             a value at ("pw",)
+        now     {pw: E1, pw: abc}    a value and a text at ("pw",): E1 may be decrypted there
+
+    Only this finds a key that is there twice, in one mapping or in two documents of a file. Where an item is not known,
+    the text may be in another one.
+    """
+    more = now.plain - before.plain
+    return {place for place in before.encrypted if place in more and UNKNOWN_ITEM not in place}
+
+
+def _find_replaced_values(before: Counts, now: Counts, found: set[Place]) -> Iterator[Place]:
+    """The other places of which there are fewer values, and more plaintexts, at, above or below them. A list item that
+    is not known may be at any place:
+
+        before  tokens: [E1, x]        a value at ("tokens", 0), and a text at ("tokens", 1)
+        now     tokens: [abc, y, z]    three texts at ("tokens", UNKNOWN_ITEM): E1 is decrypted
+        now     tokens: [E2, y, z]     two texts and a value there: E2 may be at ("tokens", 0), so none is decrypted
+    """
     fewer, more = before.encrypted - now.encrypted, now.plain - before.plain
-    for place in before.encrypted if more else ():
-        if place in more and UNKNOWN_ITEM not in place:
-            yield place
-        elif place in fewer and any(_may_be_same(place, other) for other in more):
+    for place in fewer.keys() - found:
+        # To count takes long, and most places have no new text near them.
+        if any(_may_be_same(place, other) for other in more):
             is_less_encrypted = _count_at(place, before.encrypted) > _count_at(place, now.encrypted)
             if is_less_encrypted and _count_at(place, before.plain) < _count_at(place, now.plain):
                 yield place
