@@ -11,7 +11,7 @@ from ansible_vault_companions.envelopes import conflicts
 from ansible_vault_companions.envelopes.header import MAGIC
 from ansible_vault_companions.envelopes.key_paths import KeyPath, parse_path, quote_key
 from ansible_vault_companions.envelopes.layout import Replacement, put_envelope
-from ansible_vault_companions.envelopes.node import ALIAS, NO_SCALAR, Node
+from ansible_vault_companions.envelopes.node import Node
 from ansible_vault_companions.envelopes.parsed_text import (
     NO_SCALAR_THERE,
     VALUE_NOT_ENCRYPTED,
@@ -61,7 +61,7 @@ def set_value(target: str, path: str, tool: Tool, decrypt: Decrypt, choice: Choi
 
 def _require_encryptable(value: Node, path: str, is_chosen: bool) -> None:
     """Refuses what is no scalar and, unless a password is chosen for it, what is in plaintext."""
-    if value.style in (NO_SCALAR, ALIAS):
+    if not value.is_text:
         raise Refused(NO_SCALAR_THERE.format(escape(path)))
     if not (is_chosen or value.is_tagged and value.is_envelope):
         raise Refused(VALUE_NOT_ENCRYPTED.format(escape(path)) + HOW_TO_ENCRYPT)

@@ -30,7 +30,7 @@ from ansible_vault_companions.envelopes.layout import (
     put_in_quotes,
     put_plaintext,
 )
-from ansible_vault_companions.envelopes.node import ALIAS, FOLDED, LITERAL, NO_SCALAR, PLAIN, Node
+from ansible_vault_companions.envelopes.node import FOLDED, LITERAL, PLAIN, Node
 from ansible_vault_companions.envelopes.parsed_text import ParsedYaml, require_nodes
 from ansible_vault_companions.parallel import work_at_once
 from ansible_vault_companions.passwords.labels import Credential, choose_credential
@@ -197,7 +197,7 @@ def _stays_encrypted(value: Node, closed: set[bytes]) -> bool:
 
 def _require_text(value: Node) -> None:
     """Refuses what is no text that can be encrypted."""
-    if value.style in (NO_SCALAR, ALIAS) or value.is_key:
+    if not value.is_text or value.is_key:
         raise Refused(f"{describe_place(value)} {NOT_A_STRING}")
     if value.style in (PLAIN, LITERAL, FOLDED) and not value.text:
         raise Refused(f"{describe_place(value)} {NOTHING_TYPED}")

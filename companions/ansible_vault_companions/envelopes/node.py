@@ -111,7 +111,7 @@ class Node(NamedTuple):
 
     @property
     def is_elsewhere(self) -> bool:
-        """Whether it is neither a whole file nor a value in YAML. It may be an example, so it makes no file encrypted."""
+        """Whether it is neither a whole file nor a value, as an example: a file with nothing else is not encrypted."""
         return self.style in (STRAY, LOOSE)
 
     @property

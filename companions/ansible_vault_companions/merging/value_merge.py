@@ -69,8 +69,7 @@ class Use(NamedTuple):
 
     value: Node
     token: bytes
-    # Where the token begins, the bytes between there and the envelope, and all that the token stands for.
-    start: int
+    # The bytes between the start of the token and the envelope, and all that the token stands for.
     head: bytes
     piece: Piece
     # None if all versions have the envelope, or no password decrypts it.
@@ -184,14 +183,13 @@ def _list_uses(parsed: dict[str, ParsedText], plaintexts: dict[bytes, Plaintext]
     uses: dict[str, list[Use]] = {side: [] for side in SIDES}
     for side, version in parsed.items():
         for value in version.values:
-            start = value.scalar_start
-            head = version.data[start : value.envelope_start]
+            head = version.data[value.scalar_start : value.envelope_start]
             plaintext = plaintexts.get(value.text)
             meaning = (plaintext.new_credential, plaintext.text) if plaintext else value.text
             identity = (meaning, value.style, head, value.margin, value.ending)
             token = tokens.setdefault(identity, b"%s-%d" % (mark, len(tokens)))
-            piece = Piece(version.data[start : value.end], value.text)
-            uses[side].append(Use(value, token, start, head, piece, plaintext))
+            piece = Piece(version.data[value.scalar_start : value.end], value.text)
+            uses[side].append(Use(value, token, head, piece, plaintext))
     return uses
 
 
@@ -203,7 +201,7 @@ def _put_tokens(data: bytes, uses: list[Use], mark: bytes) -> bytes:
         if value.style in (LITERAL, STRAY):
             # A line of its own below it keeps the lines of two values apart.
             text += b"%s%s/%s" % (value.ending, mark, value.name.encode().hex().encode())
-        changes.append(Replacement(use.start, value.end, text))
+        changes.append(Replacement(value.scalar_start, value.end, text))
     return apply_replacements(data, changes)
 
 

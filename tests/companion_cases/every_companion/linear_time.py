@@ -86,6 +86,6 @@ def test_many_changes(place: str) -> None:
             DecryptedValue(value, Decryption(b"", password, value.text, ANY), b"", 0) for value in list_values("old")
         ]
         typed = list_values("new")
-        return lambda: find_matches(opened, typed, Choice([password]))
+        return lambda: find_matches(opened, typed, Choice([password]), set())
 
     assert is_linear(prepare(250), prepare(250 * TIMES))
