@@ -13,7 +13,7 @@ from __future__ import annotations
 from collections import Counter
 from typing import Iterable, NamedTuple
 
-from ansible_vault_companions.guard.facts import Facts, is_placeholder
+from ansible_vault_companions.guard.facts import Reading, is_placeholder
 from ansible_vault_companions.guard.list_items import Lists, Place, Text, name_items
 
 
@@ -22,7 +22,7 @@ class Counts(NamedTuple):
     plain: Counter[Place]
 
 
-def compare_texts(before: Facts, now: Facts) -> tuple[Counts, Counts]:
+def compare_texts(before: Reading, now: Reading) -> tuple[Counts, Counts]:
     lists_before, lists_now = name_items(before.texts, now.texts)
     return _count_texts(before.texts, lists_before), _count_texts(now.texts, lists_now)
 

@@ -34,7 +34,7 @@ def check_file(evidence: Evidence, file: File) -> Finding | None:
     vault = _find_removed(evidence, file, length)
     if not vault and suffix not in EXAMPLES:
         vault = evidence.find_vault_near(file, length)
-    if vault and not evidence.known.read_texts(file.blob).is_empty:
+    if vault and not evidence.known.read(file.blob).is_empty:
         return Finding(COPY.format(escape(os.fsdecode(vault.name))), REMEDY)
     return None
 

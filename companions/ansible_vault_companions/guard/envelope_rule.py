@@ -11,7 +11,7 @@ ENCRYPT = "encrypt the text with ansible-vault-edit, or remove the tag"
 
 
 def check_file(evidence: Evidence, file: File) -> Finding | None:
-    now = evidence.known.read(file.blob)
+    now = evidence.known.search(file.blob)
     if evidence.is_example(file):
         return None
     if now.damage:

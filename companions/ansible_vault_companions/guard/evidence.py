@@ -13,7 +13,7 @@ from ansible_vault_companions.git.attributes import Attributes
 from ansible_vault_companions.git.changes import Changes, File, list_tree, split_path
 from ansible_vault_companions.git.contents import Contents
 from ansible_vault_companions.guard.comparison import compare_texts, find_variable
-from ansible_vault_companions.guard.facts import Facts, find_facts
+from ansible_vault_companions.guard.facts import Encryption, Reading, may_be_encrypted, read_content
 from ansible_vault_companions.guard.list_items import Place
 
 # The directory with a name of a file and, unless files in many places have it, the name alone.
@@ -34,22 +34,29 @@ class Known:
 
     def __init__(self, contents: Contents) -> None:
         self.contents = contents
-        self.facts: dict[str, Facts] = {"": Facts()}
-        self.whole_facts: dict[str, Facts] = {"": Facts()}
+        self.encryption = {"": Encryption()}
+        self.readings = {"": Reading()}
         self.lengths: dict[str, int] = {}
 
-    def read(self, blob: str) -> Facts:
-        """What is known of a blob. If it has no envelope, its texts are left out."""
-        facts = self.whole_facts.get(blob) or self.facts.get(blob)
-        if facts is None:
-            facts = self.facts[blob] = find_facts(self.contents.read(blob), needs_plain=False)
-        return facts
+    def search(self, blob: str) -> Encryption:
+        """What is encrypted in a blob. Unless it may have an envelope, it is not read."""
+        if blob not in self.encryption:
+            content = self.contents.read(blob)
+            if may_be_encrypted(content):
+                self.encryption[blob], self.readings[blob] = read_content(content)
+            else:
+                self.encryption[blob] = Encryption()
+        return self.encryption[blob]
 
-    def read_texts(self, blob: str) -> Facts:
-        """The same with its texts, whatever it has."""
-        if blob not in self.whole_facts:
-            self.whole_facts[blob] = find_facts(self.contents.read(blob), needs_plain=True)
-        return self.whole_facts[blob]
+    def read(self, blob: str) -> Reading:
+        """The texts of a blob."""
+        if blob not in self.readings:
+            _, self.readings[blob] = read_content(self.contents.read(blob))
+        return self.readings[blob]
+
+    def read_encrypted(self, blob: str) -> Reading:
+        """The texts of a blob that has an encrypted value; none of another."""
+        return self.read(blob) if self.search(blob).has_value else Reading()
 
     def measure(self, vault: str) -> int:
         """How long the text of a vault is, with its padding; 0 if it is not known."""
@@ -67,7 +74,7 @@ def _join_suffixes(files: list[File], known: Known) -> Iterator[File]:
     """The files. To Ansible, one that is `x.yaml` now, and was `x.yml`, is the same."""
     own = {file: os.path.splitext(file.name)[0] for file in files if may_have_variables(file.name)}
     # Of several that are gone, it was the one that was encrypted.
-    removed = sorted((file for file in own if not file.blob), key=lambda file: known.read(file.before).is_encrypted)
+    removed = sorted((file for file in own if not file.blob), key=lambda file: known.search(file.before).is_encrypted)
     gone = {own[file]: file for file in removed}
     new = {file: gone[name] for file, name in own.items() if not file.before and name in gone}
     replaced = {*new.values()}
@@ -98,9 +105,9 @@ class Evidence:
         """How many values fewer there are at each place in all files together."""
         before, now = Counter[Place](), Counter[Place]()
         for file in self.files if self.is_single else ():
-            after = self.known.read(file.blob)
-            if not (after.is_vault or self.is_example(file)):
-                counts_before, counts_now = compare_texts(self.known.read(file.before), after)
+            if not (self.known.search(file.blob).is_vault or self.is_example(file)):
+                texts_before, texts_now = self.known.read_encrypted(file.before), self.known.read_encrypted(file.blob)
+                counts_before, counts_now = compare_texts(texts_before, texts_now)
                 before.update(map(find_variable, counts_before.encrypted.elements()))
                 now.update(map(find_variable, counts_now.encrypted.elements()))
         return before - now
@@ -110,7 +117,7 @@ class Evidence:
         """The vaults that are gone, as they were, unless they were just renamed."""
         now = {file.blob for file in self.files}
         gone = [File(file.name, file.before) for file in self.files if not file.blob]
-        return [file for file in gone if file.blob not in now and self.known.read(file.blob).is_vault]
+        return [file for file in gone if file.blob not in now and self.known.search(file.blob).is_vault]
 
     @cached_property
     def new_plaintexts(self) -> set[File]:
@@ -119,8 +126,8 @@ class Evidence:
             return set()
         before = {file.before for file in self.files}
         new = [file for file in self.files if not file.before and file.blob not in before]
-        facts = {file: self.known.read(file.blob) for file in new}
-        return {file for file in new if not (facts[file].is_vault or facts[file].is_empty)}
+        found = {file: self.known.search(file.blob) for file in new}
+        return {file for file in new if not (found[file].is_vault or found[file].is_blank)}
 
     @cached_property
     def _vaults_near(self) -> dict[tuple[Address, int], File]:

@@ -31,54 +31,70 @@ PLACEHOLDER = re.compile(
 )
 
 
-class Facts(NamedTuple):
+class Encryption(NamedTuple):
+    """What a search for envelopes tells."""
+
     is_vault: bool = False
-    # Whether it has nothing but comments and placeholders.
-    is_empty: bool = False
-    # Why it cannot be read as YAML, and how many envelopes it has anywhere.
-    fault: str = ""
+    # Whether it has no text. Unless it may have an envelope, a comment counts as one.
+    is_blank: bool = False
+    # How many envelopes it has anywhere, and whether a value is encrypted.
     envelopes: int = 0
+    has_value: bool = False
     # What is wrong with its envelopes; with what only has their tag; and if it has to be encrypted.
     damage: str = ""
     is_unmerged: bool = False
     tagged: str = ""
     unencrypted: str = NOT_ENCRYPTED
-    texts: tuple[Text, ...] = ()
-
-    @property
-    def has_value(self) -> bool:
-        return any(text.is_encrypted for text in self.texts)
 
     @property
     def is_encrypted(self) -> bool:
         return self.is_vault or self.has_value
 
 
-def find_facts(content: Content, needs_plain: bool) -> Facts:
-    """Reads a content that may have an envelope, or the plaintexts of any."""
+class Reading(NamedTuple):
+    """What only reading tells."""
+
+    # Whether it has nothing but comments and placeholders.
+    is_empty: bool = False
+    # Why it cannot be read as YAML.
+    fault: str = ""
+    texts: tuple[Text, ...] = ()
+
+
+def may_be_encrypted(content: Content) -> bool:
+    """Whether a content has to be read to tell what is encrypted. To read every content would take too long."""
+    return may_have_envelope(content.data) or not content.data.strip()
+
+
+def read_content(content: Content) -> tuple[Encryption, Reading]:
     data = content.data
     if content.is_cut:
-        return Facts(is_vault=True, unencrypted="") if data.startswith(MAGIC) else Facts(fault=TOO_LONG)
+        if data.startswith(MAGIC):
+            return Encryption(is_vault=True, unencrypted=""), Reading()
+        return Encryption(), Reading(fault=TOO_LONG)
     if not data.strip():
-        return Facts(is_empty=True, unencrypted="")
+        return Encryption(is_blank=True, unencrypted=""), Reading(is_empty=True)
     if data.startswith(MAGIC):
         vault = ParsedText(data)
-        return Facts(is_vault=True, damage=find_damage(vault), is_unmerged=is_unmerged(vault), unencrypted="")
-    if not (needs_plain or may_have_envelope(data)):
-        return Facts()
-    yaml = parse_nodes(data)
+        damage = find_damage(vault)
+        return Encryption(is_vault=True, damage=damage, is_unmerged=is_unmerged(vault), unencrypted=""), Reading()
+    return _read_yaml(parse_nodes(data))
+
+
+def _read_yaml(yaml: ParsedYaml) -> tuple[Encryption, Reading]:
     texts = (*_list_texts(yaml),)
     parsed = yaml.select_envelopes()
-    return Facts(
-        is_empty=not parsed.fault and not any(text.is_encrypted or not is_placeholder(text.text) for text in texts),
-        fault=parsed.fault,
+    is_empty = not parsed.fault and not any(text.is_encrypted or not is_placeholder(text.text) for text in texts)
+    encryption = Encryption(
+        is_blank=is_empty,
         envelopes=len(parsed.envelopes),
+        has_value=any(text.is_encrypted for text in texts),
         damage=find_damage(parsed),
         is_unmerged=is_unmerged(parsed),
         tagged=find_tagged(parsed),
         unencrypted=find_unencrypted(parsed),
-        texts=texts,
     )
+    return encryption, Reading(is_empty, parsed.fault, texts)
 
 
 def _list_texts(yaml: ParsedYaml) -> Iterator[Text]:

@@ -22,16 +22,16 @@ SUFFIX = b".vault.yml"
 
 
 def check_file(evidence: Evidence, file: File) -> Finding | None:
-    was_vault = evidence.known.read(file.before).is_vault
+    was_vault = evidence.known.search(file.before).is_vault
     is_marked = evidence.is_marked(file)
     if not (was_vault or is_marked or file in evidence.new_plaintexts and has_vault_name(file.name)):
         return None
-    now = evidence.known.read_texts(file.blob)
-    if not now.unencrypted or now.is_empty and is_yaml(os.fsdecode(file.name)):
+    unencrypted = evidence.known.search(file.blob).unencrypted
+    if not unencrypted or is_yaml(os.fsdecode(file.name)) and evidence.known.read(file.blob).is_empty:
         return None
     if was_vault:
         return Finding(WAS_VAULT.format(evidence.since), REMEDY)
-    return Finding(now.unencrypted if is_marked else NAMED, REMEDY)
+    return Finding(unencrypted if is_marked else NAMED, REMEDY)
 
 
 def has_vault_name(path: bytes) -> bool:

@@ -18,16 +18,17 @@ REPAIR = "encrypt and repair it"
 
 
 def check_file(evidence: Evidence, file: File) -> Finding | None:
-    before = evidence.known.read(file.before)
-    # What had envelopes may be neither YAML nor have any now.
-    now = evidence.known.read_texts(file.blob) if before.envelopes else evidence.known.read(file.blob)
-    if now.is_vault or now.is_empty or evidence.is_example(file):
+    known = evidence.known
+    before, now = known.search(file.before), known.search(file.blob)
+    if now.is_vault or evidence.is_example(file):
         return None
-    if (before.fault or now.fault) and before.envelopes > now.envelopes:
-        return Finding(FEWER.format(evidence.since, before.fault or now.fault), REPAIR)
+    if before.envelopes > now.envelopes and not known.read(file.blob).is_empty:
+        fault = known.read(file.before).fault or known.read(file.blob).fault
+        if fault:
+            return Finding(FEWER.format(evidence.since, fault), REPAIR)
     if not before.has_value and not (evidence.removed_values and may_have_variables(file.name)):
         return None
-    counts = compare_texts(evidence.known.read_texts(file.before), evidence.known.read_texts(file.blob))
+    counts = compare_texts(known.read(file.before), known.read(file.blob))
     doubled = _find_doubled_values(*counts)
     replaced = _find_replaced_values(*counts, doubled)
     places = {*doubled, *replaced, *_find_elsewhere(evidence.removed_values, *counts)}

@@ -131,6 +131,16 @@ REFUSED: dict[str, tuple[Content, Content, str]] = {
     "in a mapping": (AB, "env: [{name: A, value: {y: s}}, {name: B, value: E2}]", env),
     "in place of an item": (AB, "env: [s, {name: B, value: E2}]", env),
     "in place of the list": (AB, "env: s", env),
+    "in a file before, with an expression in its place": (
+        {"b.yml": "tokens: [E1]"},
+        {"a.yml": "tokens: [s]", "b.yml": "tokens: ['{{ s }}']"},
+        f"a.yml {tokens}",
+    ),
+    "in a file after, with an expression in its place": (
+        {"b.yml": "tokens: [E1]"},
+        {"b.yml": "tokens: ['{{ s }}']", "c.yml": "tokens: [s]"},
+        f"c.yml {tokens}",
+    ),
     "in another file": ({"a.yml": AB, "y": ""}, {"b.yml": "env: [{name: A, value: s}]", "y": ""}, f"b.yml {env}"),
 }
 CHANGES = {what: (*change, "") for what, change in PASSING.items()} | REFUSED
