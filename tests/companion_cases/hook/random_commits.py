@@ -16,7 +16,9 @@ from companion_cases.repository import find_refused_files, make_envelope, stage_
 # The number of an envelope, or a plaintext, by the name of the file and the keys. A vault has no keys.
 Steps = tuple[str, ...]
 Contents = dict[Steps, int | str]
-HEAD: Contents = {("a.yml", "one"): 1, ("a.yml", "m", "three"): "text", ("b.yml", "four"): 4, ("v.yml",): 1}
+# A file that is renamed and changed must not have the length of a vault's text by chance, so it has a long text.
+LONG_TEXT = "text" * 12
+HEAD: Contents = {("a.yml", "one"): 1, ("a.yml", "m", "three"): LONG_TEXT, ("b.yml", "four"): 4, ("v.yml",): 1}
 EXAMPLES = 40
 TEXTS = ["{}", '"{}"', "'{{{{ x }}}}{}'", "!vault {}"]
 PLAIN = [*TEXTS, "[{}]", "{{x: {}}}"]
@@ -174,9 +176,7 @@ def test_commits(own_repository: Path) -> None:
             leaks = ((way, name) for way in random.sample([*LEAKS], len(LEAKS)) for name in team.leak(way))
             for way, name in islice(leaks, 1):
                 refused = find_refused(own_repository, team.files)
-                # A file that was renamed and changed may by chance have the length of the vault's text, too.
-                chance = below(team.files).keys() - below(team.head).keys() if way == "vault, unchanged" else set()
-                assert name in refused and refused <= {name, *chance}, way
+                assert refused == {name}, way
                 counts[way] += 1
             find_refused(own_repository, head)
 
