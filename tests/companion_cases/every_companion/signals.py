@@ -292,7 +292,7 @@ subprocess.Popen.__init__ = make_and_end
 
 
 # Seconds within which a signal ends a companion, whose work would take longer than that.
-AT_ONCE = 2
+AT_ONCE = 8
 # These take the place of a program, and note which companion has started it. The first goes on until nobody reads its
 # output, the other until its input ends.
 ENDLESS = ": > ../started-by-$PPID; while echo; do sleep 0.05; done; exit"
